@@ -1,0 +1,402 @@
+-- Steps along the starts and the records, and what passed checks tell at each place.
+-- Assumes nothing.
+use Prim.Native.Nat.{ℕ, zero, suc, _+_, _*_, _/_, _%_, _<_, _≤_}
+use mathlib.Core.Path.{_≡_, refl, ap}
+use mathlib.Core.Bool.{Bool, true, false, not, cond, _&&_, _||_}
+use mathlib.Core.List.{List, [], _∷_}
+use native.Mathlib.Nat.{le-of-suc-le-suc, not-suc-le-zero}
+use native.Mathlib.Numerals.{add-one}
+use native.Mathlib.Omega.{arith}
+use lib.Dec.{leb, eqb, ltb}
+use lib.ListN.{length, getD, drop, drop-of-length-le}
+use lib.Seq.{drop-cons, slice}
+use borrow.Author.Tests.{leb-true, ltb-true, ltb-false, eqb-true, eqb-false, not-false, eq-eqb, ne-eqb}
+use Rattle.records.specs.declared.Rec.{Rec}
+use Rattle.records.specs.Records.{recordsOf, none}
+use Rattle.records.proofs.Laws.{length-recordsOf}
+use Rattle.indexing_iter.specs.declared.OptArgIndexKey.{OptArgIndexKey}
+use Rattle.indexing_iter.specs.declared.OptArgIndexKey.the-variants.{None, Literal, Structure, List as ListKey}
+use Rattle.indexing_iter.specs.declared.InstructionArg.{InstructionArg}
+use Rattle.indexing_iter.specs.declared.InstructionArg.the-variants.{ArgedHead, ArglessHead, NonHead, Prologue}
+use Rattle.indexing_iter.specs.declared.Checked.{Checked}
+use Rattle.indexing_iter.specs.declared.Checked.the-variants.{Passed, Refused}
+use Rattle.indexing_iter.specs.Classes.{isKeyed, isShallowTemp, argOfClass, instructionArg}
+use Rattle.indexing_iter.specs.Keys.{keyStep, keyIn, isOpen}
+use Rattle.indexing_iter.specs.Clauses.{endOf, clausesOf, offsetsOf, clauseAt, keyOf, known}
+use Rattle.indexing_iter.specs.Checks.{risingBelow, isBody, hasBody, recordBad, registerBad, registerStep, checkRecords, orElse, refuse, checkArity, checkChosen, checkSize, checkStarts, checkClause, checkClauses, openSomewhere, checkKeyed, checkClausesOf, checkCode, checkBuild}
+use Rattle.indexing_iter.proofs.Parts.{slice-step, slice-done}
+
+pub drop-step : (s : List ℕ) (i : ℕ) → i < length s → drop i s ≡ getD s i 0 ∷ drop (i + 1) s
+drop-step s i h = rw (add-one i) (drop-cons s i 0 h)
+
+pub end-next : (n : ℕ) (s : List ℕ) (i : ℕ) → i < length s → getD s i 0 ≡ endOf n (drop i s)
+end-next n s i h = rw (drop-step s i h) refl
+
+pub end-last : (n : ℕ) (s : List ℕ) (i : ℕ) → length s ≤ i → n ≡ endOf n (drop i s)
+end-last n s i h = rw (drop-of-length-le s h) refl
+
+-- two neighbours, and what is left after the first of them
+pub rising-step : (n : ℕ) (s : List ℕ) (i : ℕ) → i + 1 < length s
+    → risingBelow n (drop i s) ≡ (ltb (getD s i 0) (getD s (i + 1) 0) && risingBelow n (drop (i + 1) s))
+unfolding risingBelow
+rising-step n s i h = rw (drop-step s i (omega arith), drop-step s (i + 1) h) refl
+
+pub rising-last : (n : ℕ) (s : List ℕ) (i : ℕ) → i + 1 ≡ length s → risingBelow n (drop i s) ≡ ltb (getD s i 0) n
+unfolding risingBelow
+rising-last n s i e =
+    let past : length s ≤ i + 1 = omega arith in
+    let none : drop (i + 1) s ≡ [] = drop-of-length-le s past in
+    rw (drop-step s i (omega arith), none) refl
+
+pub body-step : (cls : ℕ → ℕ) (rs : List Rec) (i end : ℕ) → i < end → end ≤ length rs
+    → hasBody cls (slice i end rs) ≡ (isBody (instructionArg cls (getD rs i none)) || hasBody cls (slice (i + 1) end rs))
+unfolding hasBody
+body-step cls rs i end h k = rw (slice-step rs i end h k) refl
+
+pub body-none : (cls : ℕ → ℕ) (rs : List Rec) (i end : ℕ) → end ≤ i → hasBody cls (slice i end rs) ≡ false
+unfolding hasBody
+body-none cls rs i end h = rw (slice-done rs i end h) refl
+
+pub checked-step : (cls : ℕ → ℕ) (arity : ℕ) (rs : List Rec) (i end last : ℕ) (r : Rec) (bad : Bool) → i < end → end ≤ length rs
+    → r ≡ getD rs i none → bad ≡ recordBad (cls (r .kind)) r
+    → checkRecords cls arity (slice i end rs) last
+    ≡ cond bad (Refused 6) (registerStep (instructionArg cls r) arity last (checkRecords cls arity (slice (i + 1) end rs)))
+unfolding checkRecords
+checked-step cls arity rs i end last r bad h k e q = rw (slice-step rs i end h k, q, e) refl
+
+pub checked-none : (cls : ℕ → ℕ) (arity : ℕ) (rs : List Rec) (i end last : ℕ) → end ≤ i → checkRecords cls arity (slice i end rs) last ≡ Passed
+unfolding checkRecords
+checked-none cls arity rs i end last h = rw (slice-done rs i end h) refl
+
+-- ---- the starts
+
+both-true : (a b : Bool) → (a && b) ≡ true → (a ≡ true) × (b ≡ true)
+both-true true b e = (refl, e)
+both-true false b e = let z : _≡_ {A = ℕ} 0 1 = cc in absurd (omega arith)
+
+pub rising-tail : (n x : ℕ) (s : List ℕ) → risingBelow n (x ∷ s) ≡ true → risingBelow n s ≡ true
+unfolding risingBelow
+rising-tail n x [] e = refl
+rising-tail n x (y ∷ s) e = both-true (ltb x y) (risingBelow n (y ∷ s)) e .1
+
+-- a clause starts before it ends
+pub rising-head : (n x : ℕ) (s : List ℕ) → risingBelow n (x ∷ s) ≡ true → x < endOf n s
+unfolding risingBelow
+rising-head n x [] e = ltb-true x n e
+rising-head n x (y ∷ s) e = ltb-true x y (both-true (ltb x y) (risingBelow n (y ∷ s)) e .0)
+
+-- and ends within the code
+pub end-below : (n : ℕ) (s : List ℕ) → risingBelow n s ≡ true → endOf n s ≤ n
+end-below n [] e = omega arith
+end-below n (x ∷ s) e = omega (arith, rising-head n x s e, end-below n s (rising-tail n x s e))
+
+pub rising-drop : (n : ℕ) (s : List ℕ) (i : ℕ) → risingBelow n s ≡ true → risingBelow n (drop i s) ≡ true
+rising-drop n [] zero e = e
+rising-drop n [] (suc i) e = e
+rising-drop n (x ∷ s) zero e = e
+rising-drop n (x ∷ s) (suc i) e = rising-drop n s i (rising-tail n x s e)
+
+pub end-within : (m n : ℕ) (s : List ℕ) (i end : ℕ) → risingBelow m s ≡ true → n ≡ m → end ≡ endOf n (drop i s) → end ≤ m
+end-within m n s i end e p q = rw (q, p) (end-below m (drop i s) (rising-drop m s i e))
+
+-- the clause at i, which ends at end, and those after it
+pub clauses-step : (rs : List Rec) (s : List ℕ) (n i end : ℕ) → i < length s → n ≡ length rs → end ≡ endOf n (drop (i + 1) s)
+    → clausesOf rs (drop i s) ≡ slice (getD s i 0) end rs ∷ clausesOf rs (drop (i + 1) s)
+unfolding clausesOf
+clauses-step rs s n i end h e q = rw (drop-step s i h, q, e) refl
+
+pub clauses-none : (rs : List Rec) (s : List ℕ) (i : ℕ) → length s ≤ i → clausesOf rs (drop i s) ≡ []
+unfolding clausesOf
+clauses-none rs s i h = rw (drop-of-length-le s h) refl
+
+-- ---- what a passed check tells
+
+passed-both : (a b : Checked) → orElse a b ≡ Passed → (a ≡ Passed) × (b ≡ Passed)
+passed-both Passed b e = (refl, e)
+passed-both (Refused n) b e = let z : _≡_ {A = ℕ} 0 1 = cc in absurd (omega arith)
+
+passed-test : (met : Bool) (n : ℕ) → refuse met n ≡ Passed → met ≡ false
+passed-test true n e = let z : _≡_ {A = ℕ} 0 1 = cc in absurd (omega arith)
+passed-test false n e = refl
+
+none-true : (a b : Bool) → (a || b) ≡ false → (a ≡ false) × (b ≡ false)
+none-true true b e = let z : _≡_ {A = ℕ} 0 1 = cc in absurd (omega arith)
+none-true false b e = (refl, e)
+
+pub arity-passed : (arity : ℕ) → checkArity arity ≡ Passed → (1 ≤ arity) × (arity ≤ 32)
+arity-passed arity e =
+    let t = both-true (leb 1 arity) (leb arity 32) (not-false _ (passed-test _ 1 e)) in
+    (leb-true 1 arity (t .0), leb-true arity 32 (t .1))
+
+pub chosen-passed : (arity c : ℕ) → checkChosen arity c ≡ Passed → (1 ≤ c) × (c ≤ arity)
+chosen-passed arity c e =
+    let t = none-true (eqb c 0) (ltb arity c) (passed-test _ 2 e) in
+    let z : c ≡ 0 → ⊥ = eqb-false c 0 (t .0) in
+    (omega arith, ltb-false arity c (t .1))
+
+pub size-passed : (code : List ℕ) → checkSize code ≡ Passed → (length code ≡ 16 * length (recordsOf code)) × (length (recordsOf code) ≤ 32768)
+size-passed code e =
+    let t = none-true (not (eqb (length code % 16) 0)) (ltb 32768 (length code / 16)) (passed-test _ 3 e) in
+    let whole : length code % 16 ≡ 0 = eqb-true (length code % 16) 0 (not-false _ (t .0)) in
+    let few : length code / 16 ≤ 32768 = ltb-false 32768 (length code / 16) (t .1) in
+    (omega (arith, length-recordsOf code), omega (arith, length-recordsOf code))
+
+-- 4: how many starts there are, and that they rise
+starts-passed : (n : ℕ) (starts : List ℕ) → checkStarts n starts ≡ Passed
+    → (1 ≤ length starts) × (length starts ≤ 1024) × (risingBelow n starts ≡ true)
+starts-passed n starts e =
+    let t = both-true (leb 1 (length starts)) (leb (length starts) 1024 && risingBelow n starts) (not-false _ (passed-test _ 4 e)) in
+    let u = both-true (leb (length starts) 1024) (risingBelow n starts) (t .1) in
+    (leb-true 1 (length starts) (t .0), leb-true (length starts) 1024 (u .0), u .1)
+
+pub rising-passed : (code starts : List ℕ) → checkStarts (length code / 16) starts ≡ Passed → risingBelow (length (recordsOf code)) starts ≡ true
+rising-passed code starts e = rw (length-recordsOf code) (starts-passed (length code / 16) starts e .2)
+
+-- ---- the clause at a known offset
+
+-- what holds of a, and of b where the offset is known among the later ones, holds of the one that is taken
+by-known : {A : Type 0} (P : A → Type 0) (t k : Bool) (a b : A) → (t || k) ≡ true → P a → (k ≡ true → P b) → P (cond t a b)
+by-known P true k a b e p q = p
+by-known P false k a b e p q = q e
+
+with-body : (b : Bool) (a : Checked) → cond b a (Refused 5) ≡ Passed → (b ≡ true) × (a ≡ Passed)
+with-body true a e = (refl, e)
+with-body false a e = let z : _≡_ {A = ℕ} 0 1 = cc in absurd (omega arith)
+
+-- a checked clause has a body record, and its records are as 6 and 7 want them
+pub clause-passed : (cls : ℕ → ℕ) (arity : ℕ) (rs : List Rec) → checkClause cls arity rs ≡ Passed
+    → (hasBody cls rs ≡ true) × (checkRecords cls arity rs 0 ≡ Passed)
+unfolding checkClause
+clause-passed cls arity rs e = with-body (hasBody cls rs) (checkRecords cls arity rs 0) e
+
+pub clauses-at : (cls : ℕ → ℕ) (arity : ℕ) (cs : List (List Rec)) (i : ℕ) → checkClauses cls arity cs ≡ Passed → i < length cs
+    → checkClause cls arity (getD cs i []) ≡ Passed
+unfolding checkClauses
+clauses-at cls arity [] i e h = absurd (not-suc-le-zero h)
+clauses-at cls arity (c ∷ cs) zero e h = passed-both (checkClause cls arity c) (checkClauses cls arity cs) e .0
+clauses-at cls arity (c ∷ cs) (suc i) e h =
+    clauses-at cls arity cs i (passed-both (checkClause cls arity c) (checkClauses cls arity cs) e .1) (le-of-suc-le-suc h)
+
+pub clauses-known : (cls : ℕ → ℕ) (arity : ℕ) (rs : List Rec) (s : List ℕ) (o : ℕ) → checkClauses cls arity (clausesOf rs s) ≡ Passed → known s o ≡ true
+    → checkClause cls arity (clauseAt rs s o) ≡ Passed
+unfolding checkClauses clausesOf clauseAt known
+clauses-known cls arity rs [] o e h = let z : _≡_ {A = ℕ} 0 1 = cc in absurd (omega arith)
+clauses-known cls arity rs (x ∷ s) o e h =
+    let c : List Rec = slice x (endOf (length rs) s) rs in
+    let t = passed-both (checkClause cls arity c) (checkClauses cls arity (clausesOf rs s)) e in
+    by-known (λ l. checkClause cls arity l ≡ Passed) (eqb (suc x) o) (known s o) c (clauseAt rs s o) h (t .0) (clauses-known cls arity rs s o (t .1))
+
+pub keyed-known : (cls : ℕ → ℕ) (rs : List Rec) (s : List ℕ) (o c : ℕ) → openSomewhere cls c (clausesOf rs s) ≡ false → known s o ≡ true
+    → isOpen (keyOf cls rs s o c) ≡ false
+unfolding openSomewhere clausesOf clauseAt known keyOf
+keyed-known cls rs [] o c e h = let z : _≡_ {A = ℕ} 0 1 = cc in absurd (omega arith)
+keyed-known cls rs (x ∷ s) o c e h =
+    let l : List Rec = slice x (endOf (length rs) s) rs in
+    let t = none-true (isOpen (keyIn cls l c)) (openSomewhere cls c (clausesOf rs s)) e in
+    by-known (λ m. isOpen (keyIn cls m c) ≡ false) (eqb (suc x) o) (known s o) l (clauseAt rs s o) h (t .0) (keyed-known cls rs s o c (t .1))
+
+-- ---- the keys of a checked clause
+
+-- a key with its sort and arity in range
+abbrev pub keyOk : OptArgIndexKey → Bool
+keyOk None = false
+keyOk (Literal s b) = leb 1 s && leb s 3
+keyOk (Structure n f) = leb 1 n && leb n 255
+keyOk ListKey = true
+
+abbrev argOk : InstructionArg → Bool
+argOk NonHead = true
+argOk Prologue = true
+argOk ArglessHead = true
+argOk (ArgedHead reg key) = keyOk key
+
+arg-cases : (a b k z s c d : Bool) (w h l : ℕ)
+    → (k && (z || (s && not (cond c (leb 1 h && leb h 255) (cond d (leb 1 h && leb h 3) true))))) ≡ false
+    → argOk (cond a Prologue (cond b ArglessHead (cond k (cond s (ArgedHead w (cond c (Structure h l) (cond d (Literal h l) ListKey))) NonHead) NonHead))) ≡ true
+arg-cases true b k z s c d w h l e = refl
+arg-cases false true k z s c d w h l e = refl
+arg-cases false false false z s c d w h l e = refl
+arg-cases false false true true s c d w h l e = let z : _≡_ {A = ℕ} 0 1 = cc in absurd (omega arith)
+arg-cases false false true false false c d w h l e = refl
+arg-cases false false true false true true d w h l e = not-false _ e
+arg-cases false false true false true false true w h l e = not-false _ e
+arg-cases false false true false true false false w h l e = refl
+
+arg-ok : (class : ℕ) (r : Rec) → recordBad class r ≡ false → argOk (argOfClass class r) ≡ true
+unfolding recordBad argOfClass
+arg-ok class r e =
+    arg-cases (eqb class 1) (eqb class 2) (isKeyed class) (not (eqb (r .sub / 4) 0)) (isShallowTemp r) (eqb class 3) (eqb class 5) (r .word) (r .half) (r .long) e
+
+not-refused : (b : Bool) (n : ℕ) (a : Checked) → cond b (Refused n) a ≡ Passed → (b ≡ false) × (a ≡ Passed)
+not-refused true n a e = let z : _≡_ {A = ℕ} 0 1 = cc in absurd (omega arith)
+not-refused false n a e = (refl, e)
+
+key-step : (a : InstructionArg) (arity last j : ℕ) (rest : ℕ → Checked) (k : OptArgIndexKey) → argOk a ≡ true → registerStep a arity last rest ≡ Passed
+    → ((l : ℕ) → rest l ≡ Passed → isOpen k ≡ false → keyOk k ≡ true) → isOpen (keyStep a j k) ≡ false → keyOk (keyStep a j k) ≡ true
+key-step NonHead arity last j rest k o e f h = let z : _≡_ {A = ℕ} 0 1 = cc in absurd (omega arith)
+key-step Prologue arity last j rest k o e f h = f last e h
+key-step ArglessHead arity last j rest k o e f h = f last e h
+key-step (ArgedHead reg key) arity last j rest k o e f h = go (eqb reg j) h
+  where
+    go : (t : Bool) → isOpen (cond t key k) ≡ false → keyOk (cond t key k) ≡ true
+    go true q = o
+    go false q = f reg (not-refused (registerBad arity last reg) 7 (rest reg) e .1) q
+
+-- a key that a checked clause gives is in range
+pub key-range : (cls : ℕ → ℕ) (arity : ℕ) (rs : List Rec) (last j : ℕ) → checkRecords cls arity rs last ≡ Passed → isOpen (keyIn cls rs j) ≡ false
+    → keyOk (keyIn cls rs j) ≡ true
+unfolding checkRecords keyIn
+key-range cls arity [] last j e h = let z : _≡_ {A = ℕ} 0 1 = cc in absurd (omega arith)
+key-range cls arity (r ∷ rs) last j e h =
+    let a : InstructionArg = instructionArg cls r in
+    let t = not-refused (recordBad (cls (r .kind)) r) 6 (registerStep a arity last (checkRecords cls arity rs)) e in
+    key-step a arity last j (checkRecords cls arity rs) (keyIn cls rs j) (arg-ok (cls (r .kind)) r (t .0)) (t .1) (λ l. key-range cls arity rs l j) h
+
+-- ---- the offsets
+
+-- strictly rising, from n on
+abbrev pub Rising : ℕ → List ℕ → Type 0
+Rising n [] = Unit {0}
+Rising n (x ∷ xs) = (n ≤ x) × Rising (suc x) xs
+
+rising-from : (n k : ℕ) (s : List ℕ) → risingBelow n s ≡ true → k ≤ endOf n s → Rising (suc k) (offsetsOf s)
+rising-from n k [] e h = tt
+rising-from n k (x ∷ s) e h = (omega arith, rising-from n (suc x) s (rising-tail n x s e) (rising-head n x s e))
+
+pub offsets-rising : (n : ℕ) (s : List ℕ) → risingBelow n s ≡ true → Rising 1 (offsetsOf s)
+offsets-rising n s e = rising-from n 0 s e (omega arith)
+
+rising-first : (n x : ℕ) (s : List ℕ) (j : ℕ) → risingBelow n (x ∷ s) ≡ true → j < length s → x < getD s j 0
+rising-first n x [] j e h = absurd (not-suc-le-zero h)
+rising-first n x (y ∷ s) zero e h = rising-head n x (y ∷ s) e
+rising-first n x (y ∷ s) (suc j) e h =
+    omega (arith, rising-head n x (y ∷ s) e, rising-first n y s j (rising-tail n x (y ∷ s) e) (le-of-suc-le-suc h))
+
+pub length-clauses : (rs : List Rec) (s : List ℕ) → length (clausesOf rs s) ≡ length s
+unfolding clausesOf
+length-clauses rs [] = refl
+length-clauses rs (x ∷ s) = ap suc (length-clauses rs s)
+
+-- the clause at the offset of start i is clause i
+pub clause-place : (n : ℕ) (rs : List Rec) (s : List ℕ) (i : ℕ) → risingBelow n s ≡ true → i < length s
+    → clauseAt rs s (suc (getD s i 0)) ≡ getD (clausesOf rs s) i []
+unfolding clauseAt clausesOf
+clause-place n rs [] i e h = absurd (not-suc-le-zero h)
+clause-place n rs (x ∷ s) zero e h = rw (eq-eqb (suc x) (suc x) refl) refl
+clause-place n rs (x ∷ s) (suc i) e h =
+    let below : x < getD s i 0 = rising-first n x s i e (le-of-suc-le-suc h) in
+    rw (ne-eqb (suc x) (suc (getD s i 0)) (λ q. omega arith)) (clause-place n rs s i (rising-tail n x s e) (le-of-suc-le-suc h))
+
+pub getD-offsets : (s : List ℕ) (i : ℕ) → i < length s → getD (offsetsOf s) i 0 ≡ suc (getD s i 0)
+getD-offsets [] i h = absurd (not-suc-le-zero h)
+getD-offsets (x ∷ s) zero h = refl
+getD-offsets (x ∷ s) (suc i) h = getD-offsets s i (le-of-suc-le-suc h)
+
+either-right : (a b : Bool) → b ≡ true → (a || b) ≡ true
+either-right true b e = refl
+either-right false b e = e
+
+pub start-known : (s : List ℕ) (i : ℕ) → i < length s → known s (suc (getD s i 0)) ≡ true
+unfolding known
+start-known [] i h = absurd (not-suc-le-zero h)
+start-known (x ∷ s) zero h = rw (eq-eqb (suc x) (suc x) refl) refl
+start-known (x ∷ s) (suc i) h = either-right (eqb (suc x) (suc (getD s i 0))) (known s (suc (getD s i 0))) (start-known s i (le-of-suc-le-suc h))
+
+pub offset-known : (s : List ℕ) (i : ℕ) → i < length s → known s (getD (offsetsOf s) i 0) ≡ true
+offset-known s i h = rw (getD-offsets s i h) (start-known s i h)
+
+-- a known offset is that of a start below n
+pub known-range : (n : ℕ) (s : List ℕ) (o : ℕ) → risingBelow n s ≡ true → known s o ≡ true → (1 ≤ o) × (o ≤ n)
+unfolding known
+known-range n [] o e h = let z : _≡_ {A = ℕ} 0 1 = cc in absurd (omega arith)
+known-range n (x ∷ s) o e h = go (eqb (suc x) o) refl h (known-range n s o (rising-tail n x s e))
+  where
+    go : (t : Bool) → eqb (suc x) o ≡ t → (t || known s o) ≡ true → (known s o ≡ true → (1 ≤ o) × (o ≤ n)) → (1 ≤ o) × (o ≤ n)
+    go true q k f =
+        let here : suc x ≡ o = eqb-true (suc x) o q in
+        let low : x < n = omega (arith, rising-head n x s e, end-below n s (rising-tail n x s e)) in
+        (omega arith, omega arith)
+    go false q k f = f k
+
+module _ (cls : ℕ → ℕ) (arity : ℕ) (code starts : List ℕ) where
+  -- numbers 3, 4 and 5 to 7
+  clauses-of-passed : checkClausesOf cls arity code starts ≡ Passed
+      → (checkSize code ≡ Passed) × (checkStarts (length code / 16) starts ≡ Passed) × (checkClauses cls arity (clausesOf (recordsOf code) starts) ≡ Passed)
+  unfolding checkClausesOf
+  clauses-of-passed e =
+      let clauses : Checked = checkClauses cls arity (clausesOf (recordsOf code) starts) in
+      let t = passed-both (checkSize code) (orElse (checkStarts (length code / 16) starts) clauses) e in
+      let u = passed-both (checkStarts (length code / 16) starts) clauses (t .1) in
+      (t .0, u .0, u .1)
+
+  pub clauses-of-rising : checkClausesOf cls arity code starts ≡ Passed → risingBelow (length (recordsOf code)) starts ≡ true
+  clauses-of-rising e = rising-passed code starts (clauses-of-passed e .1)
+
+  -- ---- checked code: 1 and 3 to 7
+  code-passed : checkCode cls arity code starts ≡ Passed → (checkArity arity ≡ Passed) × (checkClausesOf cls arity code starts ≡ Passed)
+  unfolding checkCode
+  code-passed e = passed-both (checkArity arity) (checkClausesOf cls arity code starts) e
+
+  pub code-arity : checkCode cls arity code starts ≡ Passed → (1 ≤ arity) × (arity ≤ 32)
+  code-arity e = arity-passed arity (code-passed e .0)
+
+  pub code-size : checkCode cls arity code starts ≡ Passed → (length code ≡ 16 * length (recordsOf code)) × (length (recordsOf code) ≤ 32768)
+  code-size e = size-passed code (clauses-of-passed (code-passed e .1) .0)
+
+  pub code-starts : checkCode cls arity code starts ≡ Passed → (1 ≤ length starts) × (length starts ≤ 1024)
+  code-starts e = let t = starts-passed (length code / 16) starts (clauses-of-passed (code-passed e .1) .1) in (t .0, t .1)
+
+  pub code-rising : checkCode cls arity code starts ≡ Passed → risingBelow (length (recordsOf code)) starts ≡ true
+  code-rising e = clauses-of-rising (code-passed e .1)
+
+  pub code-clauses : checkCode cls arity code starts ≡ Passed → checkClauses cls arity (clausesOf (recordsOf code) starts) ≡ Passed
+  code-clauses e = clauses-of-passed (code-passed e .1) .2
+
+  -- the clause at a known offset
+  pub code-clause : (o : ℕ) → checkCode cls arity code starts ≡ Passed → known starts o ≡ true → checkClause cls arity (clauseAt (recordsOf code) starts o) ≡ Passed
+  code-clause o e h = clauses-known cls arity (recordsOf code) starts o (code-clauses e) h
+
+  pub code-body : (o : ℕ) → checkCode cls arity code starts ≡ Passed → known starts o ≡ true → hasBody cls (clauseAt (recordsOf code) starts o) ≡ true
+  code-body o e h = clause-passed cls arity (clauseAt (recordsOf code) starts o) (code-clause o e h) .0
+
+  pub code-records : (o : ℕ) → checkCode cls arity code starts ≡ Passed → known starts o ≡ true
+      → checkRecords cls arity (clauseAt (recordsOf code) starts o) 0 ≡ Passed
+  code-records o e h = clause-passed cls arity (clauseAt (recordsOf code) starts o) (code-clause o e h) .1
+
+  pub code-key : (o j : ℕ) → checkCode cls arity code starts ≡ Passed → known starts o ≡ true → isOpen (keyOf cls (recordsOf code) starts o j) ≡ false
+      → keyOk (keyOf cls (recordsOf code) starts o j) ≡ true
+  unfolding keyOf
+  code-key o j e h k = key-range cls arity (clauseAt (recordsOf code) starts o) 0 j (code-records o e h) k
+
+  pub code-offset : (o : ℕ) → checkCode cls arity code starts ≡ Passed → known starts o ≡ true → (1 ≤ o) × (o ≤ length (recordsOf code))
+  code-offset o e h = known-range (length (recordsOf code)) starts o (code-rising e) h
+
+  pub code-offsets : checkCode cls arity code starts ≡ Passed → Rising 1 (offsetsOf starts)
+  code-offsets e = offsets-rising (length (recordsOf code)) starts (code-rising e)
+
+  -- ---- a checked build: 1 to 8
+  build-passed : (c : ℕ) → checkBuild cls arity c code starts ≡ Passed
+      → (checkArity arity ≡ Passed) × (checkChosen arity c ≡ Passed) × (checkClausesOf cls arity code starts ≡ Passed)
+      × (checkKeyed cls c (clausesOf (recordsOf code) starts) ≡ Passed)
+  unfolding checkBuild
+  build-passed c e =
+      let keyed : Checked = checkKeyed cls c (clausesOf (recordsOf code) starts) in
+      let clauses : Checked = checkClausesOf cls arity code starts in
+      let t = passed-both (checkArity arity) (orElse (checkChosen arity c) (orElse clauses keyed)) e in
+      let u = passed-both (checkChosen arity c) (orElse clauses keyed) (t .1) in
+      let v = passed-both clauses keyed (u .1) in
+      (t .0, u .0, v .0, v .1)
+
+  pub build-code : (c : ℕ) → checkBuild cls arity c code starts ≡ Passed → checkCode cls arity code starts ≡ Passed
+  unfolding checkCode
+  build-code c e = let t = build-passed c e in rw (t .0) (t .2)
+
+  pub build-chosen : (c : ℕ) → checkBuild cls arity c code starts ≡ Passed → (1 ≤ c) × (c ≤ arity)
+  build-chosen c e = chosen-passed arity c (build-passed c e .1)
+
+  pub build-keyed : (c : ℕ) → checkBuild cls arity c code starts ≡ Passed → openSomewhere cls c (clausesOf (recordsOf code) starts) ≡ false
+  build-keyed c e = passed-test _ 8 (build-passed c e .3)
+
+  -- every clause has a key at the chosen argument
+  pub build-key : (c o : ℕ) → checkBuild cls arity c code starts ≡ Passed → known starts o ≡ true → isOpen (keyOf cls (recordsOf code) starts o c) ≡ false
+  build-key c o e h = keyed-known cls (recordsOf code) starts o c (build-keyed c e) h

@@ -1,0 +1,118 @@
+-- 5 to 7 clause by clause: the clauses left give the answer that all of them give. Assumes nothing.
+use Prim.Native.Nat.{_-_, _+_}
+use mathlib.Core.Path.{_≡_}
+use native.Mathlib.Omega.{arith}
+use lib.ListN.{length, drop}
+use borrow.Author.Needs.{needs}
+use Rattle.records.specs.Records.{recordsOf}
+use Rattle.indexing_iter.specs.Classes.{classOf}
+use Rattle.indexing_iter.specs.Clauses.{clausesOf}
+use Rattle.indexing_iter.specs.Checks.{checkClauses, orElse}
+use Rattle.indexing_iter.proofs.CheckLaws.{clauses-step, clauses-none, end-within}
+use Rattle.indexing_iter.proofs.checks.check_clauses.Statement.{statement}
+use Rattle.indexing_iter.proofs.checks.check_clauses.Tie as tie
+use Rattle.indexing_iter.proofs.checks.check_clauses.Reads as reads
+use Rattle.indexing_iter.proofs.checks.check_clauses.Lts as lts
+use Rattle.indexing_iter.proofs.checks.check_clause.Reads as check-clause-reads
+use Rattle.indexing_iter.proofs.checks.clause_end.Reads as clause-end-reads
+use Rattle.records.proofs.capacity.Reads as capacity-reads
+
+abbrev Inv-loop : tie.InvT-loop
+Inv-loop code starts arity n i₀ i = checkClauses classOf arity (clausesOf (recordsOf code) (drop i starts)) ≡ checkClauses classOf arity (clausesOf (recordsOf code) starts)
+
+abbrev μ-loop : tie.MeasureT-loop
+μ-loop code starts arity n i₀ i = length starts - i
+
+-- in a turn: the clause at i, and then those after it
+turn : (c : tie.After-check-clause Inv-loop μ-loop)
+    → let at = c .before .before .before .before in
+    let a = at .before .before .before .before .args in
+    let rs = recordsOf (a .code .now) in
+    orElse (c .check-clause .result) (checkClauses classOf (a .arity) (clausesOf rs (drop (at .loop .i + 1) (a .starts .now))))
+    ≡ checkClauses classOf (a .arity) (clausesOf rs (a .starts .now))
+unfolding checkClauses
+turn c =
+    let at = c .before .before .before .before in
+    let rs = recordsOf (at .before .before .before .before .args .code .now) in
+    rw (clauses-step rs _ _ _ _ (c .before .before .before .loop-test .taken) (at .before .capacity .ensures) (c .before .clause-end .ensures), ← c .check-clause .ensures)
+    at (at .loop .inv)
+
+-- src/checks.rt:226:9
+capacity-requires : tie.Need-capacity-requires Inv-loop μ-loop
+capacity-requires c κs = search needs
+
+-- src/checks.rt:228:5
+loop-holds : tie.Need-loop-holds Inv-loop μ-loop
+loop-holds c = search needs
+
+-- src/checks.rt:229:21
+mul-start : tie.Need-mul-start Inv-loop μ-loop
+mul-start c = search needs
+
+-- src/checks.rt:229:21
+shared-slice-read-start : tie.Need-shared-slice-read-start Inv-loop μ-loop
+shared-slice-read-start c = search needs
+
+-- src/checks.rt:229:21
+cast-start : tie.Need-cast-start Inv-loop μ-loop
+cast-start c = omega (arith, c .shared-slice-known3 .given (c .before .before .loop .i))
+
+-- src/checks.rt:230:13
+clause-end-requires : tie.Need-clause-end-requires Inv-loop μ-loop
+clause-end-requires c κs = search needs
+
+-- src/checks.rt:231:13
+check-clause-requires : tie.Need-check-clause-requires Inv-loop μ-loop
+check-clause-requires c κs =
+    let at = c .before .before .before in
+    let a = at .before .before .before .before .args in
+    end-within (length (recordsOf (a .code .now))) _ (a .starts .now) (at .loop .i + 1) _ (search needs) (at .before .capacity .ensures) (c .clause-end .ensures)
+
+enum-told : tie.Need-enum-told Inv-loop μ-loop
+enum-told c = search needs
+
+-- src/checks.rt:233:13
+enum-told-2 : tie.Need-enum-told-2 Inv-loop μ-loop
+enum-told-2 c = search needs
+
+-- src/checks.rt:233:13
+returns : tie.Need-returns Inv-loop μ-loop
+returns c = rw (c .enum-told2 .given .1) (rw (c .enum-told2 .given .1) at (turn (c .before .before)))
+
+-- src/checks.rt:235:9
+add-i : tie.Need-add-i Inv-loop μ-loop
+add-i c = search needs
+
+-- src/checks.rt:228:5
+loop-less : tie.Need-loop-less Inv-loop μ-loop
+loop-less c = search needs
+
+-- src/checks.rt:228:5
+loop-again : tie.Need-loop-again Inv-loop μ-loop
+loop-again c = rw (c .enum-told .given .1) at (turn (c .before .before))
+
+-- src/checks.rt:222:1
+returns-2 : tie.Need-returns-2 Inv-loop μ-loop
+unfolding checkClauses
+returns-2 c = rw (clauses-none (recordsOf (c .before .before .before .before .before .args .code .now)) _ _ (c .loop-test .left)) at (c .before .loop .inv)
+
+pub check-clauses-spec : {M : Type 1} → statement M
+check-clauses-spec =
+    tie.close
+    (tie.spec
+    Inv-loop
+    μ-loop
+    capacity-requires
+    loop-holds
+    mul-start
+    shared-slice-read-start
+    cast-start
+    clause-end-requires
+    check-clause-requires
+    enum-told
+    enum-told-2
+    returns
+    add-i
+    loop-less
+    loop-again
+    returns-2)

@@ -1,0 +1,79 @@
+-- Whether there is a body record: the records left give the answer that the whole run gives. Assumes nothing.
+use Prim.Native.Nat.{_-_, _+_}
+use mathlib.Core.Path.{_≡_}
+use mathlib.Core.Bool.{_||_}
+use lib.Seq.{slice}
+use borrow.Author.Needs.{needs}
+use Rattle.records.specs.Records.{recordsOf}
+use Rattle.indexing_iter.specs.Classes.{classOf}
+use Rattle.indexing_iter.specs.Checks.{hasBody}
+use Rattle.indexing_iter.proofs.CheckLaws.{body-step, body-none}
+use Rattle.indexing_iter.proofs.checks.has_body.Statement.{statement}
+use Rattle.indexing_iter.proofs.checks.has_body.Tie as tie
+use Rattle.indexing_iter.proofs.checks.has_body.Reads as reads
+use Rattle.indexing_iter.proofs.checks.has_body.Lts as lts
+use Rattle.indexing_iter.proofs.checks.is_body.Reads as is-body-reads
+use Rattle.indexing_iter.proofs.extract_index_arg.Reads as extract-index-arg-reads
+
+abbrev Inv-loop : tie.InvT-loop
+Inv-loop code start end i₀ i = hasBody classOf (slice i end (recordsOf code)) ≡ hasBody classOf (slice start end (recordsOf code))
+
+abbrev μ-loop : tie.MeasureT-loop
+μ-loop code start end i₀ i = end - i
+
+-- src/checks.rt:106:5
+-- in a turn: whether the record at i is a body record, and whether one after it is
+turn : (c : tie.After-is-body Inv-loop μ-loop)
+    → let a = c .before .before .before .before .before .args in
+    let rs = recordsOf (a .code .now) in
+    (c .is-body .result || hasBody classOf (slice (c .before .before .before .loop .i + 1) (a .end) rs)) ≡ hasBody classOf (slice (a .start) (a .end) rs)
+turn c =
+    let rs = recordsOf (c .before .before .before .before .before .args .code .now) in
+    rw (body-step _ rs _ _ (c .before .before .loop-test .taken) (search needs), ← c .before .extract-index-arg .ensures, ← c .is-body .ensures)
+    at (c .before .before .before .loop .inv)
+
+loop-holds : tie.Need-loop-holds Inv-loop μ-loop
+loop-holds c = search needs
+
+-- src/checks.rt:107:20
+extract-index-arg-requires : tie.Need-extract-index-arg-requires Inv-loop μ-loop
+extract-index-arg-requires c κs = search needs
+
+-- src/checks.rt:107:12
+is-body-requires : tie.Need-is-body-requires Inv-loop μ-loop
+is-body-requires c κs = search needs
+
+-- src/checks.rt:108:13
+returns : tie.Need-returns Inv-loop μ-loop
+returns c = rw (c .if1 .taken) at (turn (c .before))
+
+-- src/checks.rt:110:9
+add-i : tie.Need-add-i Inv-loop μ-loop
+add-i c = search needs
+
+-- src/checks.rt:106:5
+loop-less : tie.Need-loop-less Inv-loop μ-loop
+loop-less c = search needs
+
+-- src/checks.rt:106:5
+loop-again : tie.Need-loop-again Inv-loop μ-loop
+loop-again c = rw (c .if1 .left) at (turn (c .before))
+
+-- src/checks.rt:101:1
+returns-2 : tie.Need-returns-2 Inv-loop μ-loop
+returns-2 c = rw (body-none _ _ _ _ (c .loop-test .left)) at (c .before .loop .inv)
+
+pub has-body-spec : {M : Type 1} → statement M
+has-body-spec =
+    tie.close
+    (tie.spec
+    Inv-loop
+    μ-loop
+    loop-holds
+    extract-index-arg-requires
+    is-body-requires
+    returns
+    add-i
+    loop-less
+    loop-again
+    returns-2)

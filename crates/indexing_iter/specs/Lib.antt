@@ -1,0 +1,4 @@
+pub mod Classes
+pub mod Keys
+pub mod Clauses
+pub mod Checks

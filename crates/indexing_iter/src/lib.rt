@@ -1,0 +1,534 @@
+// The key reader: opcode classes, the keys of a clause, and the checks of code and starts, numbers 1 to 8.
+// Port of scryer-prolog's indexing_iter.rs: extract_index_arg, collect_opt_arg_index_keys.
+use records::Rec;
+
+pub mod checks;
+
+ghost use mathlib.Core.Path.{_≡_};
+ghost use mathlib.Core.Bool.{Bool, true};
+ghost use Prim.Native.Nat.{suc, _+_, _-_, _*_, _/_, _≤_, _<_};
+ghost use lib.ListN.{length, drop, getD, replicate};
+ghost use lib.Seq.{slice};
+ghost use mathlib.Core.List.{map, _++_};
+ghost use Rattle.records.specs.Records.{recordsOf, none};
+ghost use Rattle.indexing_iter.specs.Classes.{classOf, keyOfClass, instructionArg};
+ghost use Rattle.indexing_iter.specs.Keys.{sortOf, arityOf, bitsOf, groupOf, isOpen, same, headOf, keyIn};
+ghost use Rattle.indexing_iter.specs.Clauses.{keyOf, keysOf, known};
+ghost use Rattle.indexing_iter.specs.Checks.{checkCode};
+
+// What indexing knows of one argument of a clause, or of a call.
+pub enum OptArgIndexKey {
+    None,
+    Literal(u16, u64),
+    Structure(u16, u64),
+    List,
+}
+
+// What one code record says: a register together with its key, or that there is none.
+pub enum InstructionArg {
+    ArgedHead(u32, OptArgIndexKey),
+    ArglessHead,
+    NonHead,
+    Prologue,
+}
+
+// A check's answer: passed, or refused with a number of document 01's table.
+pub enum Checked {
+    Passed,
+    Refused(u32),
+}
+
+// The settings of a predicate, passed by value on each call.
+pub struct Settings {
+    pub arity: u32,
+    pub mask: u32,
+    pub dynamic: bool,
+    pub extensible: bool,
+    pub non_counted: bool,
+    pub skip: bool,
+}
+
+// The class of each opcode: 1 prologue, 2 argless head, 3 GetStructure, 4 GetList, 5 GetConstant, 6 GetPartialString, 0 body.
+const CLASS: [u8; 256] = [
+    1,
+    1,
+    1,
+    1,
+    1,
+    1,
+    1,
+    1,
+    1,
+    1,
+    0,
+    0,
+    0,
+    0,
+    0,
+    0,
+    3,
+    4,
+    5,
+    6,
+    0,
+    0,
+    0,
+    0,
+    0,
+    0,
+    0,
+    0,
+    0,
+    0,
+    0,
+    0,
+    2,
+    2,
+    2,
+    2,
+    2,
+    2,
+    2,
+    0,
+    0,
+    0,
+    0,
+    0,
+    0,
+    0,
+    0,
+    0,
+    0,
+    0,
+    0,
+    0,
+    0,
+    0,
+    0,
+    0,
+    0,
+    0,
+    0,
+    0,
+    0,
+    0,
+    0,
+    0,
+    0,
+    0,
+    0,
+    0,
+    0,
+    0,
+    0,
+    0,
+    0,
+    0,
+    0,
+    0,
+    0,
+    0,
+    0,
+    0,
+    0,
+    0,
+    0,
+    0,
+    0,
+    0,
+    0,
+    0,
+    0,
+    0,
+    0,
+    0,
+    0,
+    0,
+    0,
+    0,
+    0,
+    0,
+    0,
+    0,
+    0,
+    0,
+    0,
+    0,
+    0,
+    0,
+    0,
+    0,
+    0,
+    0,
+    0,
+    0,
+    0,
+    0,
+    0,
+    0,
+    0,
+    0,
+    0,
+    0,
+    0,
+    0,
+    0,
+    0,
+    0,
+    0,
+    0,
+    0,
+    0,
+    0,
+    0,
+    0,
+    0,
+    0,
+    0,
+    0,
+    0,
+    0,
+    0,
+    0,
+    0,
+    0,
+    0,
+    0,
+    0,
+    0,
+    0,
+    0,
+    0,
+    0,
+    0,
+    0,
+    0,
+    0,
+    0,
+    0,
+    0,
+    0,
+    0,
+    0,
+    0,
+    0,
+    0,
+    0,
+    0,
+    0,
+    0,
+    0,
+    0,
+    0,
+    0,
+    0,
+    0,
+    0,
+    0,
+    0,
+    0,
+    0,
+    0,
+    0,
+    0,
+    0,
+    0,
+    0,
+    0,
+    0,
+    0,
+    0,
+    0,
+    0,
+    0,
+    0,
+    0,
+    0,
+    0,
+    0,
+    0,
+    0,
+    0,
+    0,
+    0,
+    0,
+    0,
+    0,
+    0,
+    0,
+    0,
+    0,
+    0,
+    0,
+    0,
+    0,
+    0,
+    0,
+    0,
+    0,
+    0,
+    0,
+    0,
+    0,
+    0,
+    0,
+    0,
+    0,
+    0,
+    0,
+    0,
+    0,
+    0,
+    0,
+    0,
+    0,
+    0,
+    0,
+    0,
+    0,
+    0,
+    0,
+    0,
+    0,
+    0,
+    0,
+    0,
+    0,
+    0,
+    0,
+    0,
+    0,
+    0,
+    0,
+    0,
+    0,
+    0,
+    0,
+    0,
+    0,
+];
+
+pub fn class_of(op: u8) -> u8
+    ensures { λ r. ⌜ r ≡ classOf op ⌝ }
+{
+    CLASS[op as usize]
+}
+
+// A key's sort: 1 atom, 2 integer, 3 float, 4 structure, 5 list, 0 none.
+pub fn sort_of(k: OptArgIndexKey) -> u16
+    ensures { λ r. ⌜ r ≡ sortOf k ⌝ }
+{
+    match k {
+        OptArgIndexKey::None => 0,
+        OptArgIndexKey::Literal(s, _) => s,
+        OptArgIndexKey::Structure(_, _) => 4,
+        OptArgIndexKey::List => 5,
+    }
+}
+
+pub fn arity_of(k: OptArgIndexKey) -> u16
+    ensures { λ r. ⌜ r ≡ arityOf k ⌝ }
+{
+    match k {
+        OptArgIndexKey::None => 0,
+        OptArgIndexKey::Literal(_, _) => 0,
+        OptArgIndexKey::Structure(n, _) => n,
+        OptArgIndexKey::List => 0,
+    }
+}
+
+pub fn bits_of(k: OptArgIndexKey) -> u64
+    ensures { λ r. ⌜ r ≡ bitsOf k ⌝ }
+{
+    match k {
+        OptArgIndexKey::None => 0,
+        OptArgIndexKey::Literal(_, b) => b,
+        OptArgIndexKey::Structure(_, f) => f,
+        OptArgIndexKey::List => 0,
+    }
+}
+
+// The group of a switch that a key belongs to: 1 literals, 2 list, 3 structures, 0 none.
+pub fn group_of(k: OptArgIndexKey) -> u8
+    ensures { λ r. ⌜ r ≡ groupOf k ⌝ }
+{
+    match k {
+        OptArgIndexKey::None => 0,
+        OptArgIndexKey::Literal(_, _) => 1,
+        OptArgIndexKey::Structure(_, _) => 3,
+        OptArgIndexKey::List => 2,
+    }
+}
+
+pub fn is_open(k: OptArgIndexKey) -> bool
+    ensures { λ r. ⌜ r ≡ isOpen k ⌝ }
+{
+    match k {
+        OptArgIndexKey::None => true,
+        OptArgIndexKey::Literal(_, _) => false,
+        OptArgIndexKey::Structure(_, _) => false,
+        OptArgIndexKey::List => false,
+    }
+}
+
+// A key's sort and arity in one number.
+pub fn head_of(k: OptArgIndexKey) -> u32
+    ensures { λ r. ⌜ r ≡ headOf k ⌝ }
+{
+    wide(sort_of(k)) * 65536 + wide(arity_of(k))
+}
+
+fn wide(x: u16) -> u32
+    ensures { λ r. ⌜ (r ≡ x) × (r < 65536) ⌝ }
+{
+    x as u32
+}
+
+// Whether two keys are equal: sort, arity and bits are.
+pub fn same_key(a: OptArgIndexKey, b: OptArgIndexKey) -> bool
+    ensures { λ r. ⌜ r ≡ same a b ⌝ }
+{
+    if group_of(a) != group_of(b) {
+        return false;
+    }
+    if sort_of(a) != sort_of(b) {
+        return false;
+    }
+    if arity_of(a) != arity_of(b) {
+        return false;
+    }
+    bits_of(a) == bits_of(b)
+}
+
+// The key of a keyed record, by its class.
+fn key_of_class(class: u8, r: Rec) -> OptArgIndexKey
+    ensures { λ k. ⌜ k ≡ keyOfClass class r ⌝ }
+{
+    if class == 3 {
+        return OptArgIndexKey::Structure(r.half, r.long);
+    }
+    if class == 5 {
+        return OptArgIndexKey::Literal(r.half, r.long);
+    }
+    OptArgIndexKey::List
+}
+
+// What one record says of an argument.
+fn instruction_arg(r: Rec) -> InstructionArg
+    ensures { λ a. ⌜ a ≡ instructionArg classOf r ⌝ }
+{
+    let class = class_of(r.kind);
+    if class == 1 {
+        return InstructionArg::Prologue;
+    }
+    if class == 2 {
+        return InstructionArg::ArglessHead;
+    }
+    if class < 3 {
+        return InstructionArg::NonHead;
+    }
+    if 6 < class {
+        return InstructionArg::NonHead;
+    }
+    let sub = r.sub;
+    if sub % 4 != 0 {
+        return InstructionArg::NonHead;
+    }
+    InstructionArg::ArgedHead(r.word, key_of_class(class, r))
+}
+
+// What the code record at place i says of an argument.
+pub fn extract_index_arg(code: &[u8], i: usize) -> InstructionArg
+    requires { ⌜ i < length (recordsOf (now code)) ⌝ }
+    ensures { λ a. ⌜ a ≡ instructionArg classOf (getD (recordsOf (now (code .entry))) i none) ⌝ }
+{
+    instruction_arg(records::get(code, i))
+}
+
+// The key at argument j that the records from start up to end give.
+pub fn key_in(code: &[u8], start: usize, end: usize, j: u32) -> OptArgIndexKey
+    requires { ⌜ end ≤ length (recordsOf (now code)) ⌝ }
+    ensures { λ k. ⌜ k ≡ keyIn classOf (slice start end (recordsOf (now (code .entry)))) j ⌝ }
+{
+    let mut i = start;
+    while i < end {
+        let a = extract_index_arg(code, i);
+        match a {
+            InstructionArg::NonHead => {
+                return OptArgIndexKey::None;
+            }
+            InstructionArg::ArgedHead(reg, key) => {
+                if reg == j {
+                    return key;
+                }
+            }
+            InstructionArg::ArglessHead => {}
+            InstructionArg::Prologue => {}
+        }
+        i += 1;
+    }
+    OptArgIndexKey::None
+}
+
+// The key at argument j of the clause at a known offset of checked code. A checked clause has a body record,
+// so reading from its start stops before the next clause.
+pub fn key_of(code: &[u8], starts: &[u32], arity: u32, offset: u32, j: u32) -> OptArgIndexKey
+    requires { ⌜ checkCode classOf arity (now code) (now starts) ≡ Checked.Passed ⌝ }
+    requires { ⌜ known (now starts) offset ≡ true ⌝ }
+    ensures { λ k. ⌜ k ≡ keyOf classOf (recordsOf (now (code .entry))) (now (starts .entry)) offset j ⌝ }
+{
+    let start = (offset - 1) as usize;
+    let end = records::capacity(code);
+    key_in(code, start, end, j)
+}
+
+// Clears the first n numbers of both lists.
+fn clear_keys(heads: &mut [u32], bits: &mut [u64], n: usize)
+    requires { ⌜ (n ≤ length (now heads)) × (n ≤ length (now bits)) ⌝ }
+    ensures { λ _. ⌜ (now (heads .exit) ≡ replicate n 0 ++ drop n (now (heads .entry))) × (now (bits .exit) ≡ replicate n 0 ++ drop n (now (bits .entry))) ⌝ }
+{
+    let mut i = 0;
+    while i < n {
+        heads[i] = 0;
+        bits[i] = 0;
+        i += 1;
+    }
+}
+
+// All keys of the clause at a known offset of checked code, argument by argument, in one pass over its records:
+// sort and arity to heads, the bits to bits.
+pub fn collect_opt_arg_index_keys(
+    code: &[u8],
+    starts: &[u32],
+    arity: u32,
+    offset: u32,
+    heads: &mut [u32],
+    bits: &mut [u64],
+)
+    requires { ⌜ checkCode classOf arity (now code) (now starts) ≡ Checked.Passed ⌝ }
+    requires { ⌜ known (now starts) offset ≡ true ⌝ }
+    requires { ⌜ (arity ≤ length (now heads)) × (arity ≤ length (now bits)) ⌝ }
+    ensures { λ _. ⌜ now (heads .exit) ≡ map headOf (keysOf classOf (recordsOf (now (code .entry))) (now (starts .entry)) offset arity) ++ drop arity (now (heads .entry)) ⌝ }
+    ensures { λ _. ⌜ now (bits .exit) ≡ map bitsOf (keysOf classOf (recordsOf (now (code .entry))) (now (starts .entry)) offset arity) ++ drop arity (now (bits .entry)) ⌝ }
+{
+    let n = arity as usize;
+    clear_keys(heads, bits, n);
+    let end = records::capacity(code);
+    let mut i = (offset - 1) as usize;
+    while i < end {
+        let a = extract_index_arg(code, i);
+        match a {
+            InstructionArg::NonHead => {
+                return;
+            }
+            InstructionArg::ArgedHead(reg, key) => {
+                let at = reg as usize - 1;
+                heads[at] = head_of(key);
+                bits[at] = bits_of(key);
+            }
+            InstructionArg::ArglessHead => {}
+            InstructionArg::Prologue => {}
+        }
+        i += 1;
+    }
+}

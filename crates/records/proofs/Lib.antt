@@ -1,0 +1,9 @@
+pub mod Back
+pub mod Filled
+pub mod Fitting
+pub mod Grown
+pub mod Laws
+pub mod MoveLaws
+pub mod PointerLaws
+pub mod Run
+pub mod Whole

@@ -1,0 +1,4 @@
+pub mod Bytes
+pub mod Moves
+pub mod Pointer
+pub mod Records
