@@ -1,0 +1,253 @@
+-- What an accepted build says: the code, starts and settings are as the theorems about walks want them.
+-- Assumes nothing.
+use mathlib.Core.Path.{_≡_, refl}
+use mathlib.Core.Bool.{Bool, true, false, cond, not, _&&_, _||_}
+use mathlib.Core.List.{List, [], _∷_}
+use Prim.Native.Nat.{ℕ, zero, suc, _+_, _/_, _%_, _≤_, _<_}
+use native.Mathlib.Omega.{arith}
+use lib.Dec.{eqb, leb, ltb}
+use lib.ListN.{length, getD, take, drop, length-map}
+use lib.Seq.{slice, getD-drop}
+use borrow.Author.Tests.{ltb-false}
+use Rattle.records.specs.declared.Rec.{Rec}
+use Rattle.records.specs.Records.{recordsOf, none, Fits, AllFit}
+use Rattle.records.proofs.Fitting.{fit-none, fit-recordsOf}
+use Rattle.records.proofs.Whole.{Bytes}
+use Rattle.indexing_iter.specs.declared.Settings.{Settings}
+use Rattle.indexing_iter.specs.declared.OptArgIndexKey.{OptArgIndexKey as Key}
+use Rattle.indexing_iter.specs.declared.OptArgIndexKey.the-variants.{None, Literal, Structure, List as ListKey}
+use Rattle.indexing_iter.specs.declared.InstructionArg.{InstructionArg}
+use Rattle.indexing_iter.specs.declared.InstructionArg.the-variants.{ArgedHead, ArglessHead, NonHead, Prologue}
+use Rattle.indexing_iter.specs.declared.Checked.{Checked}
+use Rattle.indexing_iter.specs.declared.Checked.the-variants.{Passed, Refused}
+use Rattle.indexing_iter.specs.Classes.{isKeyed, isShallowTemp, keyOfClass, argOfClass, instructionArg}
+use Rattle.indexing_iter.specs.Keys.{arityOf, bitsOf, isOpen, keyStep, keyIn}
+use Rattle.indexing_iter.specs.Clauses.{endOf, clausesOf, offsetsOf, clauseAt, keyOf, known}
+use Rattle.indexing_iter.specs.Checks.{orElse, refuse, checkArity, checkChosen, checkSize, checkStarts, risingBelow, hasBody, recordBad, registerBad, registerStep}
+use Rattle.indexing_iter.specs.Checks.{checkRecords, checkClause, checkClauses, openSomewhere, checkKeyed, checkClausesOf, checkCode, checkBuild}
+use Rattle.indexing_iter.proofs.CheckLaws.{Rising as Rises, code-arity, code-starts, code-offsets, offset-known, build-code, build-chosen}
+use Rattle.indexing_iter.proofs.KeyLaws.{KeyInRange, or-else-first, or-else-next, known-small, key-of-range}
+use Rattle.indexing.proofs.Tests.{bool-absurd, both, or-false, le-true}
+use Rattle.indexing.specs.Build.{Program, programOf}
+use Rattle.indexing.specs.Lines.{Index, size}
+use Rattle.indexing.specs.Builder.{capacityOf, stored, checkRoom, builtBy, indexOf, buildCall}
+use Rattle.indexing_scan.proofs.Rising.{Rising}
+use Rattle.well_formed.specs.WellFormed.{risingOk, keyOk}
+
+-- ---- no check refuses with the number 0
+
+abbrev Numbered : Checked → Type 0
+Numbered Passed = Unit {0}
+Numbered (Refused n) = 1 ≤ n
+
+numbered-else : (a b : Checked) → Numbered a → Numbered b → Numbered (orElse a b)
+numbered-else Passed b f g = g
+numbered-else (Refused n) b f g = f
+
+numbered-test : (t : Bool) (n : ℕ) (x : Checked) → 1 ≤ n → Numbered x → Numbered (cond t (Refused n) x)
+numbered-test true n x h f = h
+numbered-test false n x h f = f
+
+numbered-then : (t : Bool) (n : ℕ) (x : Checked) → 1 ≤ n → Numbered x → Numbered (cond t x (Refused n))
+numbered-then true n x h f = f
+numbered-then false n x h f = h
+
+numbered-step : (a : InstructionArg) (arity last : ℕ) (rest : ℕ → Checked) → ((n : ℕ) → Numbered (rest n)) → Numbered (registerStep a arity last rest)
+numbered-step NonHead arity last rest f = tt
+numbered-step Prologue arity last rest f = f last
+numbered-step ArglessHead arity last rest f = f last
+numbered-step (ArgedHead reg key) arity last rest f = numbered-test (registerBad arity last reg) 7 (rest reg) (omega arith) (f reg)
+
+module _ (cls : ℕ → ℕ) (arity : ℕ) where
+  numbered-records : (rs : List Rec) (last : ℕ) → Numbered (checkRecords cls arity rs last)
+  unfolding checkRecords
+  numbered-records [] last = tt
+  numbered-records (r ∷ rs) last =
+      numbered-test (recordBad (cls (r .kind)) r) 6 (registerStep (instructionArg cls r) arity last (checkRecords cls arity rs)) (omega arith)
+      (numbered-step (instructionArg cls r) arity last (checkRecords cls arity rs) (numbered-records rs))
+
+  numbered-clauses : (cs : List (List Rec)) → Numbered (checkClauses cls arity cs)
+  unfolding checkClauses checkClause
+  numbered-clauses [] = tt
+  numbered-clauses (c ∷ cs) = numbered-else (checkClause cls arity c) (checkClauses cls arity cs)
+      (numbered-then (hasBody cls c) 5 (checkRecords cls arity c 0) (omega arith) (numbered-records c 0)) (numbered-clauses cs)
+
+  numbered-build : (c : ℕ) (code starts : List ℕ) → Numbered (checkBuild cls arity c code starts)
+  unfolding checkBuild checkClausesOf
+  numbered-build c code starts =
+      let n : ℕ = length code / 16 in
+      numbered-else (checkArity arity) _ (numbered-test (not (leb 1 arity && leb arity 32)) 1 Passed (omega arith) tt)
+      (numbered-else (checkChosen arity c) _ (numbered-test (eqb c 0 || ltb arity c) 2 Passed (omega arith) tt)
+      (numbered-else (checkClausesOf cls arity code starts) (checkKeyed cls c (clausesOf (recordsOf code) starts))
+      (numbered-else (checkSize code) _ (numbered-test (not (eqb (length code % 16) 0) || ltb 32768 n) 3 Passed (omega arith) tt)
+      (numbered-else (checkStarts n starts) _
+      (numbered-test (not (leb 1 (length starts) && (leb (length starts) 1024 && risingBelow n starts))) 4 Passed (omega arith) tt)
+      (numbered-clauses (clausesOf (recordsOf code) starts))))
+      (numbered-test (openSomewhere cls c (clausesOf (recordsOf code) starts)) 8 Passed (omega arith) tt)))
+
+accepted : (x : Checked) (S : Settings) (idx : Index) (buffer : List ℕ) → Numbered x → builtBy x S idx buffer .number ≡ 0 → x ≡ Passed
+accepted Passed S idx buffer f e = refl
+accepted (Refused n) S idx buffer f e = absurd (omega arith)
+
+module _ (cls : ℕ → ℕ) (code starts : List ℕ) (S : Settings) (c : ℕ) (buffer : List ℕ) (accepts : buildCall cls code starts S c buffer .number ≡ 0) where
+  -- an accepted build passed 1 to 9
+  build-checks : orElse (checkBuild cls (S .arity) c code starts) (checkRoom buffer (indexOf cls code starts S c)) ≡ Passed
+  unfolding buildCall
+  build-checks =
+      let idx : Index = indexOf cls code starts S c in
+      accepted (orElse (checkBuild cls (S .arity) c code starts) (checkRoom buffer idx)) S idx buffer
+      (numbered-else (checkBuild cls (S .arity) c code starts) (checkRoom buffer idx) (numbered-build cls (S .arity) c code starts)
+      (numbered-test (ltb (capacityOf buffer) (size idx)) 9 Passed (omega arith) tt)) accepts
+
+  pub built-checked : checkBuild cls (S .arity) c code starts ≡ Passed
+  built-checked = or-else-first (checkBuild cls (S .arity) c code starts) (checkRoom buffer (indexOf cls code starts S c)) build-checks
+
+  pub built-room : size (indexOf cls code starts S c) ≤ capacityOf buffer
+  built-room = go (ltb (capacityOf buffer) (size (indexOf cls code starts S c))) refl
+      (or-else-next (checkBuild cls (S .arity) c code starts) (checkRoom buffer (indexOf cls code starts S c)) build-checks)
+    where
+      go : (t : Bool) → ltb (capacityOf buffer) (size (indexOf cls code starts S c)) ≡ t → refuse t 9 ≡ Passed
+          → size (indexOf cls code starts S c) ≤ capacityOf buffer
+      go true e f = let z : _≡_ {A = ℕ} 0 1 = cc in absurd (omega arith)
+      go false e f = ltb-false (capacityOf buffer) (size (indexOf cls code starts S c)) e
+
+  -- and gives the index's records and their count
+  pub built-is : buildCall cls code starts S c buffer
+      ≡ record { number = 0; count = size (indexOf cls code starts S c); variable = cond (S .skip) 2 1; index = stored (S .dynamic) (indexOf cls code starts S c) buffer }
+  unfolding buildCall
+  built-is = rw build-checks
+
+-- ---- the keys of a code
+
+-- a key whose arity and bits fit a record
+abbrev pub Narrow : Key → Type 0
+Narrow k = (arityOf k < 65536) × (bitsOf k < 18446744073709551616)
+
+abbrev NarrowArg : InstructionArg → Type 0
+NarrowArg NonHead = Unit {0}
+NarrowArg Prologue = Unit {0}
+NarrowArg ArglessHead = Unit {0}
+NarrowArg (ArgedHead reg key) = Narrow key
+
+narrow-arg : (class : ℕ) (r : Rec) → Fits r → NarrowArg (argOfClass class r)
+unfolding argOfClass
+narrow-arg class r f = go (eqb class 1) (eqb class 2) (isKeyed class) (isShallowTemp r)
+  where
+    key : (x y : Bool) → Narrow (cond x (Structure (r .half) (r .long)) (cond y (Literal (r .half) (r .long)) ListKey))
+    key true y = (f .half, f .long)
+    key false true = (omega arith, f .long)
+    key false false = (omega arith, omega arith)
+
+    go : (p q keyed temp : Bool)
+        → NarrowArg (cond p Prologue (cond q ArglessHead (cond keyed (cond temp (ArgedHead (r .word) (keyOfClass class r)) NonHead) NonHead)))
+    go true q keyed temp = tt
+    go false true keyed temp = tt
+    go false false false temp = tt
+    go false false true false = tt
+    go false false true true = key (eqb class 3) (eqb class 5)
+
+narrow-step : (a : InstructionArg) (j : ℕ) (rest : Key) → NarrowArg a → Narrow rest → Narrow (keyStep a j rest)
+narrow-step NonHead j rest f g = (omega arith, omega arith)
+narrow-step Prologue j rest f g = g
+narrow-step ArglessHead j rest f g = g
+narrow-step (ArgedHead reg key) j rest f g = go (eqb reg j)
+  where
+    go : (t : Bool) → Narrow (cond t key rest)
+    go true = f
+    go false = g
+
+narrow-in : (cls : ℕ → ℕ) (rs : List Rec) (j : ℕ) → AllFit rs → Narrow (keyIn cls rs j)
+unfolding keyIn
+narrow-in cls [] j f = (omega arith, omega arith)
+narrow-in cls (r ∷ rs) j f =
+    narrow-step (instructionArg cls r) j (keyIn cls rs j) (narrow-arg (cls (r .kind)) r (f 0)) (narrow-in cls rs j (λ i. f (suc i)))
+
+fit-take : (n : ℕ) (rs : List Rec) → AllFit rs → AllFit (take n rs)
+fit-take zero rs f i = fit-none
+fit-take (suc n) [] f i = fit-none
+fit-take (suc n) (r ∷ rs) f zero = f 0
+fit-take (suc n) (r ∷ rs) f (suc i) = fit-take n rs (λ k. f (suc k)) i
+
+fit-drop : (n : ℕ) (rs : List Rec) → AllFit rs → AllFit (drop n rs)
+fit-drop n rs f i = rw (getD-drop n rs i none) (f (n + i))
+
+fit-clause : (rs : List Rec) (starts : List ℕ) (o : ℕ) → AllFit rs → AllFit (clauseAt rs starts o)
+unfolding clauseAt
+fit-clause rs [] o f = λ i. fit-none
+fit-clause rs (s ∷ ss) o f = go (eqb (suc s) o) (fit-clause rs ss o f)
+  where
+    go : (t : Bool) → AllFit (clauseAt rs ss o) → AllFit (cond t (slice s (endOf (length rs) ss) rs) (clauseAt rs ss o))
+    go true g = fit-drop s (take (endOf (length rs) ss) rs) (fit-take (endOf (length rs) ss) rs f)
+    go false g = g
+
+-- the keys of a code that is a list of bytes
+code-narrow : (cls : ℕ → ℕ) (code starts : List ℕ) (o a : ℕ) → Bytes code → Narrow (keyOf cls (recordsOf code) starts o a)
+unfolding keyOf
+code-narrow cls code starts o a f = narrow-in cls (clauseAt (recordsOf code) starts o) a (fit-clause (recordsOf code) starts o (fit-recordsOf code f))
+
+-- no clause has an offset that is not known
+no-clause : (rs : List Rec) (starts : List ℕ) (o : ℕ) → known starts o ≡ false → clauseAt rs starts o ≡ []
+unfolding known clauseAt
+no-clause rs [] o e = refl
+no-clause rs (s ∷ ss) o e = let x = or-false (eqb (suc s) o) (known ss o) e in rw (x .0) (no-clause rs ss o (x .1))
+
+range-ok : (k : Key) → KeyInRange k → isOpen k ≡ false → keyOk k ≡ true
+range-ok None r e = bool-absurd refl e
+range-ok (Literal s b) r e = both (le-true 1 s (r .0)) (le-true s 3 (r .1))
+range-ok (Structure n f) r e = refl
+range-ok ListKey r e = refl
+
+no-key : (cls : ℕ → ℕ) (rs : List Rec) (starts : List ℕ) (o a : ℕ) → known starts o ≡ false → isOpen (keyOf cls rs starts o a) ≡ true
+unfolding keyOf keyIn
+no-key cls rs starts o a k = rw (no-clause rs starts o k)
+
+-- a bound key of checked code passes the test of a switch's keys
+code-keys : (cls : ℕ → ℕ) (arity : ℕ) (code starts : List ℕ) (o a : ℕ) → checkCode cls arity code starts ≡ Passed
+    → isOpen (keyOf cls (recordsOf code) starts o a) ≡ false → keyOk (keyOf cls (recordsOf code) starts o a) ≡ true
+code-keys cls arity code starts o a p e = go (known starts o) refl
+  where
+    go : (t : Bool) → known starts o ≡ t → keyOk (keyOf cls (recordsOf code) starts o a) ≡ true
+    go true k = range-ok (keyOf cls (recordsOf code) starts o a) (key-of-range cls arity code starts o a k p) e
+    go false k = bool-absurd (no-key cls (recordsOf code) starts o a k) e
+
+-- ---- the offsets
+
+rising-as : (n : ℕ) (os : List ℕ) → Rises n os → Rising n os
+rising-as n [] r = tt
+rising-as n (o ∷ os) r = (r .0, rising-as (suc o) os (r .1))
+
+rising-ok : (kn : ℕ → Bool) (n : ℕ) (os : List ℕ) → Rises n os → ((i : ℕ) → i < length os → kn (getD os i 0) ≡ true) → risingOk kn n os ≡ true
+rising-ok kn n [] r f = refl
+rising-ok kn n (o ∷ os) r f =
+    both (le-true n o (r .0)) (both (f 0 (omega arith)) (rising-ok kn (suc o) os (r .1) (λ i h. f (suc i) (omega arith))))
+
+-- ---- all of it
+
+-- a program, the known offsets, the chosen argument and the clauses of a build that was accepted
+pub record Ready (P : Program) (kn : ℕ → Bool) (c : ℕ) (os : List ℕ) : Type 0 where
+  pub arity : P .arity ≤ 32
+  pub low : 1 ≤ c
+  pub high : c ≤ P .arity
+  pub some : 1 ≤ length os
+  pub rising : Rising 1 os
+  pub offsets : risingOk kn 1 os ≡ true
+  pub small : (o : ℕ) → kn o ≡ true → o < 0x8000_0000
+  pub keys : (o a : ℕ) → isOpen (P .keyOf o a) ≡ false → keyOk (P .keyOf o a) ≡ true
+  pub narrow : (o a : ℕ) → Narrow (P .keyOf o a)
+
+pub ready : (cls : ℕ → ℕ) (code starts : List ℕ) (S : Settings) (c : ℕ) → Bytes code → checkBuild cls (S .arity) c code starts ≡ Passed
+    → Ready (programOf cls S (recordsOf code) starts) (known starts) c (offsetsOf starts)
+ready cls code starts S c bytes e =
+    let p : checkCode cls (S .arity) code starts ≡ Passed = build-code cls (S .arity) code starts c e in
+    let n : length (offsetsOf starts) ≡ length starts = length-map starts suc in
+    record {
+      arity = code-arity cls (S .arity) code starts p .1;
+      low = build-chosen cls (S .arity) code starts c e .0;
+      high = build-chosen cls (S .arity) code starts c e .1;
+      some = omega (arith, code-starts cls (S .arity) code starts p .0);
+      rising = rising-as 1 (offsetsOf starts) (code-offsets cls (S .arity) code starts p);
+      offsets = rising-ok (known starts) 1 (offsetsOf starts) (code-offsets cls (S .arity) code starts p) (λ i h. offset-known starts i (omega arith));
+      small = λ o k. omega (arith, known-small cls (S .arity) code starts o k p);
+      keys = λ o a. code-keys cls (S .arity) code starts o a p;
+      narrow = λ o a. code-narrow cls code starts o a bytes;
+    }

@@ -1,0 +1,12 @@
+pub mod Selects
+pub mod Faithful
+pub mod Built
+pub mod Runs
+pub mod Show
+pub mod Accepted
+pub mod Fields
+pub mod Stored
+pub mod Unlimited
+pub mod Demand3
+pub mod Demand3Example
+pub mod General

@@ -1,0 +1,53 @@
+-- The one-line index, and the built index as its expansion.
+-- Assumes nothing.
+use mathlib.Core.Path.{_≡_, refl, _∙_, ap}
+use mathlib.Core.Bool.{Bool, true, false, cond}
+use mathlib.Core.List.{List, [], _∷_}
+use mathlib.Core.Option.{some}
+use Prim.Native.Nat.{ℕ, zero, suc, _<_, _-_}
+use native.Mathlib.Omega.{arith}
+use lib.Dec.{eqb}
+use lib.ListN.{length}
+use Rattle.indexing.proofs.Expand.{offs-retag, length-expand}
+use Rattle.indexing.proofs.Pointers.{Closed, NoSwitch, later-none-switch, closed-expand}
+use Rattle.indexing.proofs.Tests.{eqb-same}
+use Rattle.indexing.specs.Build.{Program, laterTables}
+use Rattle.indexing.specs.Expand.{initial, seed, build}
+use Rattle.indexing.specs.Lines.{switch, onDemand, lineAt, offs, find}
+
+pub offs-initial : (z : ℕ) (os : List ℕ) → offs (initial z os) ≡ os
+offs-initial z [] = refl
+offs-initial z (o ∷ os) = ap (λ (xs : List ℕ). o ∷ xs) (offs-initial z os)
+
+module _ (P : Program) (c : ℕ) (os : List ℕ) where
+  pub seed-clauses : offs (lineAt (seed P c os) 0 .choices) ≡ os
+  unfolding seed
+  seed-clauses = offs-retag P (initial 7 os) ∙ offs-initial 7 os
+
+  pub seed-demand : find c (lineAt (seed P c os) 0 .tables) ≡ some (onDemand c)
+  unfolding seed
+  seed-demand = rw (eqb-same c)
+
+  pub seed-length : length (seed P c os) ≡ 1
+  unfolding seed
+  seed-length = refl
+
+  pub seed-switch : (l : ℕ) → NoSwitch (lineAt (seed P c os) l)
+  unfolding seed
+  seed-switch zero b d es e = go (eqb c b) e
+    where
+      go : (x : Bool) → cond x (some (onDemand c)) (find b (laterTables P (P .arity - c) (suc c) os)) ≡ some (switch d es) → ⊥
+      go true e = let z : _≡_ {A = ℕ} 0 1 = cc in omega arith
+      go false e = later-none-switch P (P .arity - c) (suc c) os b d es e
+  seed-switch (suc l) b d es e = let z : _≡_ {A = ℕ} 0 1 = cc in omega arith
+
+  pub seed-closed : Closed (seed P c os)
+  seed-closed = record { within = λ l b d es k e. absurd (seed-switch l b d es e) }
+
+  pub built-closed : Closed (build P c os)
+  unfolding build
+  built-closed = closed-expand P (seed P c os) 0 c c (omega (arith, seed-length)) seed-demand seed-closed
+
+  pub built-length : 0 < length (build P c os)
+  unfolding build
+  built-length = omega (arith, seed-length, length-expand P (seed P c os) 0 c)

@@ -1,0 +1,39 @@
+-- Expansion of an on-demand table, and the builder as an expansion of the one-line index (document 01, sections 3 and 4).
+-- Assumes nothing.
+use mathlib.Core.List.{List, [], _∷_, _++_}
+use Prim.Native.Nat.{ℕ, suc, _+_, _-_}
+use lib.ListN.{length, set}
+use Rattle.indexing.specs.Lines.{Table, switch, onDemand, dead, Choice, Line, Index, lineAt, offs, swap}
+use Rattle.indexing.specs.Build.{Program, openAt, laterTables, retag, newLines, newEntries}
+
+-- section 3: all clauses, with the tag z
+abbrev pub initial : ℕ → List ℕ → List Choice
+initial z [] = []
+initial z (o ∷ os) = record { tag = z; offset = o } ∷ initial z os
+
+module _ (P : Program) where
+  -- section 4: what an on-demand table for a becomes, by the clauses that are open there; g is what distances grow by
+  abbrev pub expanded : ℕ → List Choice → ℕ → List ℕ → Table
+  expanded a cs g [] = switch a (newEntries P a cs (1 + g))
+  expanded a cs g (o ∷ os) = dead a (o ∷ os)
+
+  -- section 4: the lines that go to the end of the index
+  abbrev pub added : ℕ → List Choice → List ℕ → List Line
+  added a cs [] = newLines P a cs
+  added a cs (o ∷ os) = []
+
+  -- section 4: the index with the on-demand table of line l for argument a expanded
+  unfoldable pub expand : Index → ℕ → ℕ → Index
+  expand idx l a =
+      let here = lineAt idx l in
+      let opens = openAt P a (offs (here .choices)) in
+      let table = expanded a (here .choices) (length idx - l - 1) opens in
+      set idx l (record { tables = swap a table (here .tables); choices = here .choices }) ++ added a (here .choices) opens
+
+  -- section 3, line 0 before its switch on c is made: the tables behind it, and all clauses, if dynamic with tag Z
+  unfoldable pub seed : ℕ → List ℕ → Index
+  seed c os = record { tables = onDemand c ∷ laterTables P (P .arity - c) (suc c) os; choices = retag P (initial 7 os) } ∷ []
+
+  -- section 3: the built index
+  unfoldable pub build : ℕ → List ℕ → Index
+  build c os = expand (seed c os) 0 c

@@ -1,0 +1,4 @@
+pub mod Agree
+pub mod Walk
+pub mod Steps
+pub mod Calls

@@ -1,0 +1,4 @@
+pub mod WellFormed
+pub mod SwitchKeys
+pub mod GoodLines
+pub mod Sound

@@ -1,0 +1,1 @@
+// Number 12: whether a handed-in index is well formed, in one pass over its records.
