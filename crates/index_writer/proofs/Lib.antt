@@ -1,0 +1,5 @@
+pub mod Upto
+pub mod Gather
+pub mod BucketLaws
+pub mod LineLaws
+pub mod ColumnLaws

@@ -1,0 +1,363 @@
+// Buckets of a line's clauses by their keys at one argument, and the switch that leads to them.
+use records::Rec;
+ghost use mathlib.Core.Path.{_≡_};
+ghost use mathlib.Core.Bool.{cond};
+ghost use Prim.Native.Nat.{_+_, _*_, _≤_, _<_};
+ghost use lib.ListN.{length};
+ghost use Rattle.records.specs.Records.{recordsOf, Wrote};
+ghost use Rattle.records.specs.Moves.{written};
+ghost use Rattle.records.specs.Pointer.{internalWord};
+ghost use Rattle.indexing.specs.Upto.{one, countTo, anyTo};
+ghost use Rattle.indexing.specs.Columns.{groupOfHead, sizesTo, needsLine, opensBucket, opensLine, linesTo, emptyList, listLines, entryAt, entries, listEntries, switchRecs};
+
+// The group of a key by its head: 1 literals, 2 list, 3 structures.
+fn group(head: u32) -> u32
+    ensures { λ r. ⌜ r ≡ groupOfHead head ⌝ }
+{
+    if head < 262144 {
+        return 1;
+    }
+    if head < 327680 { 3 } else { 2 }
+}
+
+// Whether clause i opens a bucket of group g.
+fn opens_bucket(leaders: &[u32], heads: &[u32], g: u32, i: usize) -> bool
+    requires { ⌜ (i < length (now leaders)) × (length (now heads) ≡ length (now leaders)) ⌝ }
+    ensures { λ r. ⌜ r ≡ opensBucket (now (leaders .entry)) (now (heads .entry)) g i ⌝ }
+{
+    if leaders[i] as usize == i {
+        return group(heads[i]) == g;
+    }
+    false
+}
+
+// Whether the bucket that clause i leads is a line.
+fn needs_line(leaders: &[u32], sizes: &[u32], dynamic: bool, i: usize) -> bool
+    requires { ⌜ i < length (now leaders) ⌝ }
+    requires { ⌜ now sizes ≡ sizesTo (now leaders) (length (now leaders)) ⌝ }
+    ensures { λ r. ⌜ r ≡ needsLine (now (leaders .entry)) dynamic i ⌝ }
+{
+    if dynamic {
+        return true;
+    }
+    2 <= sizes[i]
+}
+
+// Whether clause i opens a bucket of group g that is a line.
+pub fn opens_line(
+    leaders: &[u32],
+    heads: &[u32],
+    sizes: &[u32],
+    dynamic: bool,
+    g: u32,
+    i: usize,
+) -> bool
+    requires { ⌜ (i < length (now leaders)) × (length (now heads) ≡ length (now leaders)) ⌝ }
+    requires { ⌜ now sizes ≡ sizesTo (now leaders) (length (now leaders)) ⌝ }
+    ensures { λ r. ⌜ r ≡ opensLine (now (leaders .entry)) (now (heads .entry)) dynamic g i ⌝ }
+{
+    if opens_bucket(leaders, heads, g, i) {
+        return needs_line(leaders, sizes, dynamic, i);
+    }
+    false
+}
+
+// One where clause i opens a line of group g, else nothing.
+pub fn line_step(
+    leaders: &[u32],
+    heads: &[u32],
+    sizes: &[u32],
+    dynamic: bool,
+    g: u32,
+    i: usize,
+) -> u32
+    requires { ⌜ (i < length (now leaders)) × (length (now heads) ≡ length (now leaders)) ⌝ }
+    requires { ⌜ now sizes ≡ sizesTo (now leaders) (length (now leaders)) ⌝ }
+    ensures { λ r. ⌜ (r ≡ one (opensLine (now (leaders .entry)) (now (heads .entry)) dynamic g i)) × (r ≤ 1) ⌝ }
+{
+    if opens_line(leaders, heads, sizes, dynamic, g, i) {
+        1
+    } else {
+        0
+    }
+}
+
+// How many lines the buckets of group g take.
+pub fn count_lines(leaders: &[u32], heads: &[u32], sizes: &[u32], dynamic: bool, g: u32) -> u32
+    requires { ⌜ (length (now heads) ≡ length (now leaders)) × (length (now leaders) ≤ 1024) ⌝ }
+    requires { ⌜ now sizes ≡ sizesTo (now leaders) (length (now leaders)) ⌝ }
+    ensures { λ r. ⌜ r ≡ linesTo (now (leaders .entry)) (now (heads .entry)) dynamic g (length (now (leaders .entry))) ⌝ }
+    ensures { λ r. ⌜ r ≤ length (now (leaders .entry)) ⌝ }
+{
+    let n = leaders.len();
+    let mut k: u32 = 0;
+    let mut i = 0;
+    while i < n {
+        if opens_line(leaders, heads, sizes, dynamic, g, i) {
+            k += 1;
+        }
+        i += 1;
+    }
+    k
+}
+
+// Whether group g has a bucket.
+fn any_bucket(leaders: &[u32], heads: &[u32], g: u32) -> bool
+    requires { ⌜ length (now heads) ≡ length (now leaders) ⌝ }
+    ensures { λ r. ⌜ r ≡ anyTo (opensBucket (now (leaders .entry)) (now (heads .entry)) g) (length (now (leaders .entry))) ⌝ }
+{
+    let n = leaders.len();
+    let mut i = 0;
+    while i < n {
+        if opens_bucket(leaders, heads, g, i) {
+            return true;
+        }
+        i += 1;
+    }
+    false
+}
+
+// Whether the list line has no clauses: a dynamic line has one even where no clause has a list.
+pub fn empty_list(leaders: &[u32], heads: &[u32], dynamic: bool) -> bool
+    requires { ⌜ length (now heads) ≡ length (now leaders) ⌝ }
+    ensures { λ r. ⌜ r ≡ emptyList (now (leaders .entry)) (now (heads .entry)) dynamic ⌝ }
+{
+    if dynamic {
+        return !any_bucket(leaders, heads, 2);
+    }
+    false
+}
+
+// How many lines the list group has.
+pub fn list_lines(leaders: &[u32], heads: &[u32], sizes: &[u32], dynamic: bool) -> u32
+    requires { ⌜ (length (now heads) ≡ length (now leaders)) × (length (now leaders) ≤ 1024) ⌝ }
+    requires { ⌜ now sizes ≡ sizesTo (now leaders) (length (now leaders)) ⌝ }
+    ensures { λ r. ⌜ r ≡ listLines (now (leaders .entry)) (now (heads .entry)) dynamic ⌝ }
+    ensures { λ r. ⌜ r ≤ length (now (leaders .entry)) + 1 ⌝ }
+{
+    if empty_list(leaders, heads, dynamic) {
+        return 1;
+    }
+    count_lines(leaders, heads, sizes, dynamic, 2)
+}
+
+// The word of the entry of clause i's bucket: its line at distance d, or its offset.
+fn pointer_to(leaders: &[u32], sizes: &[u32], dynamic: bool, i: usize, d: u32, offset: u32) -> u32
+    requires { ⌜ (i < length (now leaders)) × (d < 2147483648) ⌝ }
+    requires { ⌜ now sizes ≡ sizesTo (now leaders) (length (now leaders)) ⌝ }
+    ensures { λ r. ⌜ r ≡ cond (needsLine (now (leaders .entry)) dynamic i) (internalWord d) offset ⌝ }
+{
+    if needs_line(leaders, sizes, dynamic, i) {
+        return records::pointer::internal(d);
+    }
+    offset
+}
+
+// Writes the entry of the bucket that clause i opens in group g, if it opens one, and returns the place after it.
+fn put_entry(
+    index: &mut [u8],
+    q: usize,
+    leaders: &[u32],
+    heads: &[u32],
+    sizes: &[u32],
+    bits: &[u64],
+    offs: &[u32],
+    dynamic: bool,
+    g: u32,
+    d: u32,
+    i: usize,
+) -> usize
+    requires { ⌜ (i < length (now leaders)) × (length (now heads) ≡ length (now leaders)) × (length (now bits) ≡ length (now leaders)) × (length (now offs) ≡ length (now leaders)) × (d < 2147483648) ⌝ }
+    requires { ⌜ now sizes ≡ sizesTo (now leaders) (length (now leaders)) ⌝ }
+    requires { ⌜ q + length (entryAt (now leaders) (now heads) (now bits) (now offs) dynamic g d i) ≤ length (recordsOf (now index)) ⌝ }
+    ensures { λ r. ⌜ r ≡ q + length (entryAt (now (leaders .entry)) (now (heads .entry)) (now (bits .entry)) (now (offs .entry)) dynamic g d i) ⌝ }
+    ensures { λ _. ⌜ Wrote (now (index .entry)) (now (index .exit)) (written (recordsOf (now (index .entry))) q (entryAt (now (leaders .entry)) (now (heads .entry)) (now (bits .entry)) (now (offs .entry)) dynamic g d i)) ⌝ }
+{
+    if opens_bucket(leaders, heads, g, i) {
+        let word = pointer_to(leaders, sizes, dynamic, i, d, offs[i]);
+        let sub = (heads[i] / 65536 % 256) as u8;
+        let half = (heads[i] % 65536) as u16;
+        records::put(
+            index,
+            q,
+            Rec {
+                kind: 5,
+                sub,
+                half,
+                word,
+                long: bits[i],
+            },
+        );
+        return q + 1;
+    }
+    q
+}
+
+// Writes the entries of group g from place p on and returns the place after them; d is the distance of the group's first line, and k
+// that of its next.
+fn put_entries(
+    index: &mut [u8],
+    p: usize,
+    leaders: &[u32],
+    heads: &[u32],
+    sizes: &[u32],
+    bits: &[u64],
+    offs: &[u32],
+    dynamic: bool,
+    g: u32,
+    d: u32,
+) -> usize
+    requires { ⌜ (length (now heads) ≡ length (now leaders)) × (length (now bits) ≡ length (now leaders)) × (length (now offs) ≡ length (now leaders)) × (d + length (now leaders) < 2147483648) ⌝ }
+    requires { ⌜ now sizes ≡ sizesTo (now leaders) (length (now leaders)) ⌝ }
+    requires { ⌜ p + length (entries (now leaders) (now heads) (now bits) (now offs) dynamic g d) ≤ length (recordsOf (now index)) ⌝ }
+    ensures { λ r. ⌜ r ≡ p + length (entries (now (leaders .entry)) (now (heads .entry)) (now (bits .entry)) (now (offs .entry)) dynamic g d) ⌝ }
+    ensures { λ _. ⌜ Wrote (now (index .entry)) (now (index .exit)) (written (recordsOf (now (index .entry))) p (entries (now (leaders .entry)) (now (heads .entry)) (now (bits .entry)) (now (offs .entry)) dynamic g d)) ⌝ }
+{
+    let mut q = p;
+    let mut k = d;
+    let mut i = 0;
+    while i < leaders.len() {
+        q = put_entry(
+            index,
+            q,
+            leaders,
+            heads,
+            sizes,
+            bits,
+            offs,
+            dynamic,
+            g,
+            k,
+            i,
+        );
+        k += line_step(leaders, heads, sizes, dynamic, g, i);
+        i += 1;
+    }
+    q
+}
+
+// Writes the entries of the list group from place p on and returns the place after them; d is the distance of its line.
+fn put_list_entries(
+    index: &mut [u8],
+    p: usize,
+    leaders: &[u32],
+    heads: &[u32],
+    sizes: &[u32],
+    bits: &[u64],
+    offs: &[u32],
+    dynamic: bool,
+    d: u32,
+) -> usize
+    requires { ⌜ (length (now heads) ≡ length (now leaders)) × (length (now bits) ≡ length (now leaders)) × (length (now offs) ≡ length (now leaders)) × (d + length (now leaders) < 2147483648) ⌝ }
+    requires { ⌜ now sizes ≡ sizesTo (now leaders) (length (now leaders)) ⌝ }
+    requires { ⌜ p + length (listEntries (now leaders) (now heads) (now bits) (now offs) dynamic d) ≤ length (recordsOf (now index)) ⌝ }
+    ensures { λ r. ⌜ r ≡ p + length (listEntries (now (leaders .entry)) (now (heads .entry)) (now (bits .entry)) (now (offs .entry)) dynamic d) ⌝ }
+    ensures { λ _. ⌜ Wrote (now (index .entry)) (now (index .exit)) (written (recordsOf (now (index .entry))) p (listEntries (now (leaders .entry)) (now (heads .entry)) (now (bits .entry)) (now (offs .entry)) dynamic d)) ⌝ }
+{
+    if empty_list(leaders, heads, dynamic) {
+        let word = records::pointer::internal(d);
+        records::put(
+            index,
+            p,
+            Rec {
+                kind: 5,
+                sub: 5,
+                half: 0,
+                word,
+                long: 0,
+            },
+        );
+        return p + 1;
+    }
+    put_entries(index, p, leaders, heads, sizes, bits, offs, dynamic, 2, d)
+}
+
+// Writes the switch on arg and its entries from place p on and returns the place after them; d is the distance of the first new line.
+// Entries stand by literals, list, structures; lines by list, structures from d3 on, literals from d1 on.
+pub fn put_switch(
+    index: &mut [u8],
+    p: usize,
+    leaders: &[u32],
+    heads: &[u32],
+    sizes: &[u32],
+    bits: &[u64],
+    offs: &[u32],
+    dynamic: bool,
+    arg: u16,
+    d: u32,
+) -> usize
+    requires { ⌜ (length (now heads) ≡ length (now leaders)) × (length (now bits) ≡ length (now leaders)) × (length (now offs) ≡ length (now leaders)) ⌝ }
+    requires { ⌜ now sizes ≡ sizesTo (now leaders) (length (now leaders)) ⌝ }
+    requires { ⌜ (length (now leaders) ≤ 1024) × (d ≤ 65536) ⌝ }
+    requires { ⌜ p + length (switchRecs (now leaders) (now heads) (now bits) (now offs) dynamic arg d) ≤ length (recordsOf (now index)) ⌝ }
+    ensures { λ r. ⌜ r ≡ p + length (switchRecs (now (leaders .entry)) (now (heads .entry)) (now (bits .entry)) (now (offs .entry)) dynamic arg d) ⌝ }
+    ensures { λ _. ⌜ Wrote (now (index .entry)) (now (index .exit)) (written (recordsOf (now (index .entry))) p (switchRecs (now (leaders .entry)) (now (heads .entry)) (now (bits .entry)) (now (offs .entry)) dynamic arg d)) ⌝ }
+{
+    let d3 = d + list_lines(leaders, heads, sizes, dynamic);
+    let d1 = d3 + count_lines(leaders, heads, sizes, dynamic, 3);
+    records::put(
+        index,
+        p,
+        Rec {
+            kind: 2,
+            sub: 0,
+            half: arg,
+            word: 0,
+            long: 0,
+        },
+    );
+    let q = p + 1;
+    let q = put_entries(index, q, leaders, heads, sizes, bits, offs, dynamic, 1, d1);
+    let q = put_list_entries(index, q, leaders, heads, sizes, bits, offs, dynamic, d);
+    put_entries(index, q, leaders, heads, sizes, bits, offs, dynamic, 3, d3)
+}
+
+// How many entries group g has.
+fn count_entries(leaders: &[u32], heads: &[u32], g: u32) -> usize
+    requires { ⌜ length (now heads) ≡ length (now leaders) ⌝ }
+    ensures { λ r. ⌜ r ≡ countTo (opensBucket (now (leaders .entry)) (now (heads .entry)) g) (length (now (leaders .entry))) ⌝ }
+    ensures { λ r. ⌜ r ≤ length (now (leaders .entry)) ⌝ }
+{
+    let n = leaders.len();
+    let mut k = 0;
+    let mut i = 0;
+    while i < n {
+        if opens_bucket(leaders, heads, g, i) {
+            k += 1;
+        }
+        i += 1;
+    }
+    k
+}
+
+// How many entries the list group has.
+fn count_list_entries(leaders: &[u32], heads: &[u32], dynamic: bool) -> usize
+    requires { ⌜ length (now heads) ≡ length (now leaders) ⌝ }
+    ensures { λ r. ⌜ r ≡ cond (emptyList (now (leaders .entry)) (now (heads .entry)) dynamic) 1 (countTo (opensBucket (now (leaders .entry)) (now (heads .entry)) 2) (length (now (leaders .entry)))) ⌝ }
+    ensures { λ r. ⌜ r ≤ length (now (leaders .entry)) + 1 ⌝ }
+{
+    if empty_list(leaders, heads, dynamic) {
+        return 1;
+    }
+    count_entries(leaders, heads, 2)
+}
+
+// How many records the switch and its entries take.
+pub fn switch_room(
+    leaders: &[u32],
+    heads: &[u32],
+    bits: &[u64],
+    offs: &[u32],
+    dynamic: bool,
+    arg: u16,
+    d: u32,
+) -> usize
+    requires { ⌜ (length (now heads) ≡ length (now leaders)) × (length (now leaders) ≤ 1024) ⌝ }
+    ensures { λ r. ⌜ r ≡ length (switchRecs (now (leaders .entry)) (now (heads .entry)) (now (bits .entry)) (now (offs .entry)) dynamic arg d) ⌝ }
+    ensures { λ r. ⌜ r ≤ 2 + 3 * length (now (leaders .entry)) ⌝ }
+{
+    let literals = count_entries(leaders, heads, 1);
+    let lists = count_list_entries(leaders, heads, dynamic);
+    let structures = count_entries(leaders, heads, 3);
+    1 + literals + lists + structures
+}
