@@ -21,7 +21,7 @@ use Rattle.indexing.specs.Lines.{Table, switch, onDemand, dead, Index, lineAt, 
 use Rattle.indexing_scan.proofs.Same.{Alike, skips, passes, stops, outs, gotos}
 use Rattle.indexing_scan.proofs.Walks.{Has, has-line, has-new, act-left, has-move, Turn, quiet, stores, refuses, turn, settle-quiet}
 use Rattle.indexing_scan.proofs.Walks.{settle-full, step, walk-grown}
-use Rattle.indexing_scan.proofs.Unstored.{left-new}
+use Rattle.indexing_scan.proofs.UnstoredWalk.{left-new}
 use Rattle.indexing_scan.specs.Agree.{Call}
 use Rattle.indexing_scan.specs.Walk.{Place, line, unstored, Move, skip, stop, pass, out, goto, act, moveOn, move, State, Result, lookAt, result}
 use Rattle.indexing_scan.specs.Walk.{isOnDemand, due, settle, walkFrom}

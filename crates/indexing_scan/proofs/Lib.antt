@@ -1,7 +1,13 @@
 pub mod Choose
 pub mod Same
 pub mod Walks
-pub mod Unstored
+pub mod UnstoredWalk
 pub mod Again
 pub mod Rising
 pub mod Steps
+pub mod CallLaws
+pub mod UnstoredLaws
+pub mod WitnessLaws
+pub mod Turns
+pub mod ChooseLaws
+pub mod PlaceLaws

@@ -81,7 +81,7 @@ walkedBy Passed S r index out =
       mark = cond (r .whole) 0 1;
       records = size (r .left);
       index = stored (S .dynamic) (r .left) index;
-      out = r .found .offsets ++ drop (length (r .found .offsets)) out;
+      out = r .found .offsets ++ drop (length (r .found .offsets)) out
     }
 
 -- section 5: the walk of the index that the first count records stand for

@@ -1,0 +1,18 @@
+use mathlib.Core.Path.{refl}
+use borrow.Author.Tests.{lt-ltb, le-ltb}
+use borrow.Author.Needs.{needs}
+use Rattle.indexing_scan.proofs.calls.check_out.Statement.{statement}
+use Rattle.indexing_scan.proofs.calls.check_out.Tie as tie
+use Rattle.indexing_scan.proofs.calls.check_out.Reads as reads
+use Rattle.indexing_scan.proofs.calls.check_out.Lts as lts
+
+-- src/calls.rt:86:9
+returns : tie.Need-returns
+returns c = rw (lt-ltb _ _ (c .if1 .taken)) refl
+
+-- src/calls.rt:82:1
+returns-2 : tie.Need-returns-2
+returns-2 c = rw (le-ltb _ _ (c .if1 .left)) refl
+
+pub check-out-spec : {M : Type 1} → statement M
+check-out-spec = tie.close (tie.spec returns returns-2)
