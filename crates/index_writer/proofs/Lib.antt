@@ -3,3 +3,4 @@ pub mod Gather
 pub mod BucketLaws
 pub mod LineLaws
 pub mod ColumnLaws
+pub mod FillingLaws

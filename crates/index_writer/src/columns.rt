@@ -14,6 +14,7 @@ ghost use Rattle.indexing_iter.specs.Checks.{checkCode};
 ghost use Rattle.indexing.specs.Upto.{one};
 ghost use Rattle.indexing.specs.Columns.{sameAt, leaderOf, leadersTo, sizesTo, headsTo, bitsTo, openRow, opensTo};
 ghost use Rattle.index_writer.specs.Choices.{wordsOf, subsOf, AllBelow, AllKnown, openNumbers};
+ghost use Rattle.indexing.specs.Expanding.{ColumnsOf};
 
 // A key as two numbers: its sort and arity in one, and its bits.
 struct KeyNumbers {
@@ -168,6 +169,33 @@ pub fn read_keys(
         bits[i] = k.bits;
         i += 1;
     }
+}
+
+// All columns of the clauses offs at argument a; whole is the leaders column in which they are one bucket, led by clause 0.
+pub fn fill_columns(
+    code: &[u8],
+    starts: &[u32],
+    arity: u32,
+    offs: &[u32],
+    a: u32,
+    leaders: &mut [u32],
+    heads: &mut [u32],
+    sizes: &mut [u32],
+    whole: &mut [u32],
+    bits: &mut [u64],
+    opens: &mut [u8],
+)
+    requires { ⌜ checkCode classOf arity (now code) (now starts) ≡ Checked.Passed ⌝ }
+    requires { ⌜ AllKnown (now starts) (now offs) ⌝ }
+    requires { ⌜ (1 ≤ a) × (a ≤ arity) ⌝ }
+    requires { ⌜ (length (now offs) ≤ 1024) × (length (now leaders) ≡ length (now offs)) × (length (now heads) ≡ length (now offs)) × (length (now sizes) ≡ length (now offs)) ⌝ }
+    requires { ⌜ (length (now whole) ≡ length (now offs)) × (length (now bits) ≡ length (now offs)) × (length (now opens) ≡ 32 * length (now offs)) ⌝ }
+    ensures { λ _. ⌜ ColumnsOf (keyOf classOf (recordsOf (now (code .entry))) (now (starts .entry))) arity (now (offs .entry)) a (now (leaders .exit)) (now (heads .exit)) (now (sizes .exit)) (now (whole .exit)) (now (bits .exit)) (now (opens .exit)) ⌝ }
+{
+    read_keys(code, starts, arity, offs, a, heads, bits, opens);
+    find_leaders(heads, bits, leaders);
+    count_sizes(leaders, sizes);
+    zeros(whole);
 }
 
 // The offsets and tags of the m offset records from place q on.

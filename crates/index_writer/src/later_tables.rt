@@ -34,7 +34,7 @@ fn open_member(leaders: &[u32], opens: &[u8], i: usize, b: u32, j: usize) -> boo
 }
 
 // Whether some clause of the bucket that clause i leads has no key at argument b.
-fn any_open(leaders: &[u32], opens: &[u8], i: usize, b: u32) -> bool
+pub fn any_open(leaders: &[u32], opens: &[u8], i: usize, b: u32) -> bool
     requires { ⌜ (length (now leaders) ≤ 1024) × (length (now opens) ≡ 32 * length (now leaders)) ⌝ }
     requires { ⌜ (1 ≤ b) × (b ≤ 32) ⌝ }
     ensures { λ r. ⌜ r ≡ anyTo (openMember (now (leaders .entry)) (now (opens .entry)) [] i b) (length (now (leaders .entry))) ⌝ }

@@ -15,6 +15,7 @@ use Rattle.indexing.proofs.BridgeLists.{any-hit, any-clear, length-each
 use Rattle.indexing.proofs.Keys.{same-refl, same-eq}
 use Rattle.indexing.proofs.Tests.{eqb-same, eqb-true, eqb-other, bool-absurd, not-true, true-T, le-true}
 use Rattle.indexing.specs.Columns.{groupOfHead, sameAt, firstSame, leaderOf, leadersTo, headsTo, bitsTo, member, leads}
+use Rattle.indexing.specs.Expanding.{headsAt, bitsAt, leadersAt}
 use Rattle.indexing.specs.Upto.{anyTo}
 
 -- ---- keys in range
@@ -119,75 +120,66 @@ module _ (K : ℕ → ℕ → Key) (os : List ℕ) (a : ℕ) where
   abbrev pub keyAt : ℕ → Key
   keyAt j = K (getD os j 0) a
 
-  abbrev pub headsAt : List ℕ
-  headsAt = headsTo K os a (length os)
-
-  abbrev pub bitsAt : List ℕ
-  bitsAt = bitsTo K os a (length os)
-
-  abbrev pub leadersAt : List ℕ
-  leadersAt = leadersTo headsAt bitsAt (length os)
-
-  pub length-heads : length headsAt ≡ length os
+  pub length-heads : length (headsAt K os a) ≡ length os
   unfolding headsTo
   length-heads = length-each (λ j. headOf (keyAt j)) (length os)
 
-  pub length-bits : length bitsAt ≡ length os
+  pub length-bits : length (bitsAt K os a) ≡ length os
   unfolding bitsTo
   length-bits = length-each (λ j. bitsOf (keyAt j)) (length os)
 
-  pub length-leaders : length leadersAt ≡ length os
+  pub length-leaders : length (leadersAt K os a) ≡ length os
   unfolding leadersTo
-  length-leaders = length-each (λ j. leaderOf headsAt bitsAt j) (length os)
+  length-leaders = length-each (λ j. leaderOf (headsAt K os a) (bitsAt K os a) j) (length os)
 
-  pub getD-heads : (j : ℕ) → j < length os → getD headsAt j 0 ≡ headOf (keyAt j)
+  pub getD-heads : (j : ℕ) → j < length os → getD (headsAt K os a) j 0 ≡ headOf (keyAt j)
   unfolding headsTo
   getD-heads j h = getD-each (λ j. headOf (keyAt j)) (length os) j 0 h
 
-  pub getD-bits : (j : ℕ) → j < length os → getD bitsAt j 0 ≡ bitsOf (keyAt j)
+  pub getD-bits : (j : ℕ) → j < length os → getD (bitsAt K os a) j 0 ≡ bitsOf (keyAt j)
   unfolding bitsTo
   getD-bits j h = getD-each (λ j. bitsOf (keyAt j)) (length os) j 0 h
 
-  pub getD-leaders : (j : ℕ) → j < length os → getD leadersAt j 0 ≡ leaderOf headsAt bitsAt j
+  pub getD-leaders : (j : ℕ) → j < length os → getD (leadersAt K os a) j 0 ≡ leaderOf (headsAt K os a) (bitsAt K os a) j
   unfolding leadersTo
-  getD-leaders j h = getD-each (λ j. leaderOf headsAt bitsAt j) (length os) j 0 h
+  getD-leaders j h = getD-each (λ j. leaderOf (headsAt K os a) (bitsAt K os a) j) (length os) j 0 h
 
   module _ (ranged : (i : ℕ) → i < length os → InRange (keyAt i)) where
-    pub same-at : (i j : ℕ) → i < length os → j < length os → sameAt headsAt bitsAt i j ≡ same (keyAt i) (keyAt j)
+    pub same-at : (i j : ℕ) → i < length os → j < length os → sameAt (headsAt K os a) (bitsAt K os a) i j ≡ same (keyAt i) (keyAt j)
     unfolding sameAt
     same-at i j h k = rw (getD-heads i h, getD-heads j k, getD-bits i h, getD-bits j k) (head-same (keyAt i) (keyAt j) (ranged i h) (ranged j k))
 
     -- the leader of clause j is the first clause with an equal key
-    pub leader-key : (j : ℕ) → j < length os → First (λ p. same (keyAt p) (keyAt j)) 0 j (getD leadersAt j 0)
+    pub leader-key : (j : ℕ) → j < length os → First (λ p. same (keyAt p) (keyAt j)) 0 j (getD (leadersAt K os a) j 0)
     leader-key j h =
-        let f = leader-first headsAt bitsAt j in
+        let f = leader-first (headsAt K os a) (bitsAt K os a) j in
         rw (getD-leaders j h)
         (record {
           low = f .low;
           high = f .high;
-          hit = sym (same-at (leaderOf headsAt bitsAt j) j (omega (arith, f .high)) h) ∙ f .hit;
+          hit = sym (same-at (leaderOf (headsAt K os a) (bitsAt K os a) j) j (omega (arith, f .high)) h) ∙ f .hit;
           before = λ p u v. sym (same-at p j (omega (arith, f .high)) h) ∙ f .before p u v;
         })
 
     -- a clause leads if no earlier clause has its key
-    pub leads-is : (i : ℕ) → i < length os → leads leadersAt i ≡ not (anyTo (λ j. same (keyAt j) (keyAt i)) i)
+    pub leads-is : (i : ℕ) → i < length os → leads (leadersAt K os a) i ≡ not (anyTo (λ j. same (keyAt j) (keyAt i)) i)
     unfolding leads
-    leads-is i h = go (ℕ-discrete (getD leadersAt i 0) i) (leader-key i h)
+    leads-is i h = go (ℕ-discrete (getD (leadersAt K os a) i 0) i) (leader-key i h)
       where
-        go : Dec (getD leadersAt i 0 ≡ i) → First (λ p. same (keyAt p) (keyAt i)) 0 i (getD leadersAt i 0)
-            → eqb (getD leadersAt i 0) i ≡ not (anyTo (λ j. same (keyAt j) (keyAt i)) i)
+        go : Dec (getD (leadersAt K os a) i 0 ≡ i) → First (λ p. same (keyAt p) (keyAt i)) 0 i (getD (leadersAt K os a) i 0)
+            → eqb (getD (leadersAt K os a) i 0) i ≡ not (anyTo (λ j. same (keyAt j) (keyAt i)) i)
         go (yes e) f = rw (any-clear (λ j. same (keyAt j) (keyAt i)) i (λ p k. f .before p (omega arith) (omega arith)), e) (eqb-same i)
-        go (no e) f = rw (any-hit (λ j. same (keyAt j) (keyAt i)) i (getD leadersAt i 0) (omega (arith, f .high)) (f .hit)) (eqb-other e)
+        go (no e) f = rw (any-hit (λ j. same (keyAt j) (keyAt i)) i (getD (leadersAt K os a) i 0) (omega (arith, f .high)) (f .hit)) (eqb-other e)
 
     -- the clauses that clause i leads are those with its key
-    pub member-is : (i j : ℕ) → i < length os → j < length os → leads leadersAt i ≡ true → member leadersAt i j ≡ same (keyAt j) (keyAt i)
+    pub member-is : (i j : ℕ) → i < length os → j < length os → leads (leadersAt K os a) i ≡ true → member (leadersAt K os a) i j ≡ same (keyAt j) (keyAt i)
     unfolding leads member
     member-is i j h k e = go (same (keyAt j) (keyAt i)) refl
       where
         lead : ℕ
-        lead = getD leadersAt j 0
+        lead = getD (leadersAt K os a) j 0
 
-        mine : First (λ p. same (keyAt p) (keyAt i)) 0 i (getD leadersAt i 0)
+        mine : First (λ p. same (keyAt p) (keyAt i)) 0 i (getD (leadersAt K os a) i 0)
         mine = leader-key i h
 
         its : First (λ p. same (keyAt p) (keyAt j)) 0 j lead
@@ -197,7 +189,7 @@ module _ (K : ℕ → ℕ → Key) (os : List ℕ) (a : ℕ) where
         late : same (keyAt j) (keyAt i) ≡ true → lead < i → ⊥
         late s l =
             let q : keyAt j ≡ keyAt i = same-eq (keyAt j) (keyAt i) s in
-            let w : getD leadersAt i 0 ≡ i = eqb-true e in
+            let w : getD (leadersAt K os a) i 0 ≡ i = eqb-true e in
             bool-absurd (ap (same (keyAt lead)) (sym q) ∙ its .hit) (mine .before lead (omega arith) (omega arith))
 
         early : same (keyAt j) (keyAt i) ≡ true → i < lead → ⊥

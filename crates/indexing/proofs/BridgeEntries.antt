@@ -80,8 +80,8 @@ module _ (P : Program) (a : ℕ) (cs : List Choice) (ranged : (i : ℕ) → i < 
       ap (map entryRec) (entries-append P a cs d front last)
       ∙ map-append entryRec (entriesFor P a cs d front) (entriesFor P a cs (d + length (linesFor P a cs front)) last)
       ∙ ap₂ (λ (x y : List Rec). x ++ y) (entries-to g d m (omega arith))
-      (ap (λ (x : ℕ). map entryRec (entriesFor P a cs (d + x) last)) (lines-to P a cs ranged g m (omega arith))
-      ∙ entry-turn g (d + linesTo (leaders P a cs) (heads P a cs) (P .dynamic) g m) m (omega arith))
+        (ap (λ (x : ℕ). map entryRec (entriesFor P a cs (d + x) last)) (lines-to P a cs ranged g m (omega arith))
+        ∙ entry-turn g (d + linesTo (leaders P a cs) (heads P a cs) (P .dynamic) g m) m (omega arith))
 
   -- the entries of a group's keys
   keys-entries : (g d : ℕ) → map entryRec (entriesFor P a cs d (keysTo P a cs g (clauses P a cs)))
@@ -131,8 +131,8 @@ module _ (P : Program) (a : ℕ) (cs : List Choice) (ranged : (i : ℕ) → i < 
             map-append entryRec (entriesFor P a cs atLit (literals P a (offs cs)))
             (entriesFor P a cs d (lists P a (offs cs)) ++ entriesFor P a cs atStr (structures P a (offs cs)))
             ∙ ap₂ (λ (x y : List Rec). x ++ y) (group-entries 1 atLit)
-            (map-append entryRec (entriesFor P a cs d (lists P a (offs cs))) (entriesFor P a cs atStr (structures P a (offs cs)))
-            ∙ ap₂ (λ (x y : List Rec). x ++ y) (list-entries d) (group-entries 3 atStr))
+              (map-append entryRec (entriesFor P a cs d (lists P a (offs cs))) (entriesFor P a cs atStr (structures P a (offs cs)))
+              ∙ ap₂ (λ (x y : List Rec). x ++ y) (list-entries d) (group-entries 3 atStr))
 
         -- where the structures' lines and the literals' lines begin
         structures-at : ℕ

@@ -12,7 +12,8 @@ use lib.ListN.{length, getD, length-append}
 use Rattle.indexing_iter.specs.Keys.{groupOf, isOpen, same}
 use Rattle.indexing_iter.specs.declared.OptArgIndexKey.{OptArgIndexKey as Key}
 use Rattle.indexing_iter.specs.declared.OptArgIndexKey.the-variants.{List as ListKey, Literal, None, Structure}
-use Rattle.indexing.proofs.BridgeColumns.{InRange, head-group, keyAt, headsAt, bitsAt, leadersAt, length-leaders, getD-heads, leads-is, member-is}
+use Rattle.indexing.specs.Expanding.{headsAt, bitsAt, leadersAt}
+use Rattle.indexing.proofs.BridgeColumns.{InRange, head-group, keyAt, length-leaders, getD-heads, leads-is, member-is}
 use Rattle.indexing.proofs.BridgeLists.{count-any, list-cong, list-each, length-some, list-lone, map-list}
 use Rattle.indexing.proofs.BridgeLists.{keep-list, keep-one, keep-places, keep-neither, keep-within, distinct-each}
 use Rattle.indexing.proofs.Expand.{offs-bucket}
@@ -169,7 +170,7 @@ module _ (P : Program) (a : ℕ) (cs : List Choice) where
     bucket-is i h l =
         keep-places (λ o. same (P .keyOf o a) (key i)) (offs cs) 0
         ∙ list-cong (λ j. cond (same (key j) (key i)) (getD (offs cs) j 0 ∷ []) []) (λ j. cond (member leaders i j) (getD (offs cs) j 0 ∷ []) []) clauses
-        (λ j k. ap (λ (b : Bool). cond b (getD (offs cs) j 0 ∷ []) []) (sym (member-is (P .keyOf) (offs cs) a ranged i j h k l)))
+          (λ j k. ap (λ (b : Bool). cond b (getD (offs cs) j 0 ∷ []) []) (sym (member-is (P .keyOf) (offs cs) a ranged i j h k l)))
 
     -- the same as choices, with their tags
     pub bucketOf-is : (i : ℕ) (d : Choice) → i < clauses → leads leaders i ≡ true
@@ -178,9 +179,9 @@ module _ (P : Program) (a : ℕ) (cs : List Choice) where
         keep-places (λ c. same (P .keyOf (c .offset) a) (key i)) cs d
         ∙ ap (listTo (λ j. cond (same (P .keyOf (getD cs j d .offset) a) (key i)) (getD cs j d ∷ []) [])) (sym (length-offs cs))
         ∙ list-cong (λ j. cond (same (P .keyOf (getD cs j d .offset) a) (key i)) (getD cs j d ∷ []) [])
-        (λ j. cond (member leaders i j) (getD cs j d ∷ []) []) clauses
-        (λ j k. ap (λ (b : Bool). cond b (getD cs j d ∷ []) [])
-        (ap (λ (o : ℕ). same (P .keyOf o a) (key i)) (getD-offs cs j d k) ∙ sym (member-is (P .keyOf) (offs cs) a ranged i j h k l)))
+          (λ j. cond (member leaders i j) (getD cs j d ∷ []) []) clauses
+          (λ j k. ap (λ (b : Bool). cond b (getD cs j d ∷ []) [])
+          (ap (λ (o : ℕ). same (P .keyOf o a) (key i)) (getD-offs cs j d k) ∙ sym (member-is (P .keyOf) (offs cs) a ranged i j h k l)))
 
     pub size-is : (i : ℕ) → i < clauses → leads leaders i ≡ true → sizeOf leaders i ≡ length (bucket P a (offs cs) (key i))
     unfolding sizeOf
@@ -202,10 +203,10 @@ module _ (P : Program) (a : ℕ) (cs : List Choice) where
         static (yes q) = rw (le-true 2 (sizeOf leaders i) q) (single-two (bucket P a (offs cs) (key i)) (omega (arith, size-is i h l)))
         static (no q) =
             let e : bucket P a (offs cs) (key i) ≡ getD (offs cs) i 0 ∷ [] =
-            bucket-is i h l
-            ∙ list-lone (λ j. cond (member leaders i j) (getD (offs cs) j 0 ∷ []) []) clauses i (getD (offs cs) i 0) h
-            (ap (λ (b : Bool). cond b (getD (offs cs) i 0 ∷ []) []) mine)
-            (omega (arith, size-is i h l, ap length (bucket-is i h l))) in
+                bucket-is i h l
+                ∙ list-lone (λ j. cond (member leaders i j) (getD (offs cs) j 0 ∷ []) []) clauses i (getD (offs cs) i 0) h
+                  (ap (λ (b : Bool). cond b (getD (offs cs) i 0 ∷ []) []) mine)
+                  (omega (arith, size-is i h l, ap length (bucket-is i h l))) in
             rw (le-false 2 (sizeOf leaders i) (omega arith)) (ap (single false) e)
 
         go : (b : Bool) → single b (bucket P a (offs cs) (key i)) ≡ cond (cond b true (leb 2 (sizeOf leaders i))) none (some (getD (offs cs) i 0))
@@ -245,7 +246,7 @@ module _ (P : Program) (a : ℕ) (cs : List Choice) where
           ap (keep (λ k. eqb g (groupOf k))) keys-at
           ∙ keep-list (λ k. eqb g (groupOf k)) (λ i. cond (leads leaders i) (key i ∷ []) []) clauses
           ∙ list-cong (λ i. keep (λ k. eqb g (groupOf k)) (cond (leads leaders i) (key i ∷ []) []))
-          (λ i. cond (cond (leads leaders i) (eqb (groupOfHead (getD heads i 0)) g) false) (key i ∷ []) []) clauses turn
+            (λ i. cond (cond (leads leaders i) (eqb (groupOfHead (getD heads i 0)) g) false) (key i ∷ []) []) clauses turn
         where
           turn : (i : ℕ) → i < clauses
               → keep (λ k. eqb g (groupOf k)) (cond (leads leaders i) (key i ∷ []) [])

@@ -18,6 +18,7 @@ use Rattle.indexing_iter.specs.Keys.{groupOf, same}
 use Rattle.indexing.specs.Upto.{one, countTo, anyTo, listTo}
 use Rattle.indexing.specs.Columns.{groupOfHead, member, leads, sizeOf, needsLine, opensBucket, opensLine, linesTo, emptyList, listLines, openMember}
 use Rattle.indexing.specs.Columns.{tablesAt, tagAt, choiceAt, choices, lineOf, lineAt, groupLines, listLine, newLinesRecs, seedRecs, deadRecs}
+use Rattle.indexing.specs.Expanding.{opensOf}
 use Rattle.indexing.specs.Lists.{add, keep}
 use Rattle.indexing.specs.Lines.{dead, Choice, Line, offs, deadRec, tableRecs, tablesRecs, choiceRec, modeOf, records}
 use Rattle.indexing.specs.Build.{Program, consLine, openAt, laterTables, tagRest, tagStatic, retag, newLine, keysAt, literals, lists}
@@ -32,7 +33,7 @@ use Rattle.indexing.proofs.BridgeColumns.{InRange, head-group, First, g
 use Rattle.indexing.proofs.BridgeGroups.{length-offs, all-keyed, lines-append, opens-leads, clauses, key, heads, leaders, keysTo}
 use Rattle.indexing.proofs.BridgeGroups.{leaders-count, lone-is, lines-to, group-keys, lists-is, group-lines, list-lines, empty-lone}
 use Rattle.indexing.proofs.BridgeTables.{list-first, count-first, chosen, chosen-all, chosen-keep, length-chosen, occupied}
-use Rattle.indexing.proofs.BridgeTables.{offs-chosen, programBy, opensOf, dead-clauses, any-open, tables-at}
+use Rattle.indexing.proofs.BridgeTables.{offs-chosen, programBy, dead-clauses, any-open, tables-at}
 
 -- ---- the chosen elements, each with its number among them
 
@@ -50,7 +51,7 @@ module _ {A B : Type 0} where
       let next : (j : ℕ) → k + countTo t (suc j) ≡ k + one (t 0) + countTo s j = λ j. omega (arith, count-first t j) in
       list-first (λ j. cond (t j) (f (k + countTo t j) (getD (x ∷ xs) j d) ∷ []) []) (length xs)
       ∙ ap (λ (r : List B). cond (t 0) (f (k + 0) x ∷ []) [] ++ r)
-      (list-cong _ _ (length xs) (λ j h. ap (λ (n : ℕ). cond (s j) (f n (getD xs j d) ∷ []) []) (next j)) ∙ list-numbered f d (k + one (t 0)) s xs)
+        (list-cong _ _ (length xs) (λ j h. ap (λ (n : ℕ). cond (s j) (f n (getD xs j d) ∷ []) []) (next j)) ∙ list-numbered f d (k + one (t 0)) s xs)
       ∙ go (t 0) (chosen s xs)
     where
       go : (b : Bool) (r : List A) → cond b (f (k + 0) x ∷ []) [] ++ numbered f (k + one b) r ≡ numbered f k (add b x r)
@@ -151,7 +152,7 @@ module _ (S : Settings) (K : ℕ → ℕ → Key) (cs : List Choice) (leaders : 
       let first : (j : ℕ) → countTo places j ≡ 0 + countTo places j = λ j. omega arith in
       ap (listTo written) whole
       ∙ list-cong written (λ j. cond (places j) (f (0 + countTo places j) (getD cs j noChoice) ∷ []) []) (length cs)
-      (λ j h. rw (offs-at cs j, tag-own (S .dynamic) (S .«non_counted») n (countTo places j) (λ e. own e j h), ← first j))
+        (λ j h. rw (offs-at cs j, tag-own (S .dynamic) (S .«non_counted») n (countTo places j) (λ e. own e j h), ← first j))
       ∙ list-numbered f noChoice 0 places cs
       ∙ tagged-all (programBy S K) n mine (sym size-chosen)
 
@@ -216,8 +217,8 @@ module _ (S : Settings) (K : ℕ → ℕ → Key) (small : S .arity ≤ 32) (zer
   unfolding deadRecs
   dead-all a p q =
       ap (λ (r : List Rec). rec 4 0 a 0 0 ∷ r) (
-      dead-clauses S K os zeros small (Z .whole) 0 a p q
-      ∙ ap (λ (r : List ℕ). map deadRec (openAt (programBy S K) a r)) (all-members zeros os Z os refl))
+        dead-clauses S K os zeros small (Z .whole) 0 a p q
+        ∙ ap (λ (r : List ℕ). map deadRec (openAt (programBy S K) a r)) (all-members zeros os Z os refl))
 
   -- line 0 before its switch is made
   pub seed-is : (tags : List ℕ) (c : ℕ) → Tagged S (initial 7 os) tags → c ≤ S .arity
@@ -300,9 +301,9 @@ module _ (S : Settings) (K : ℕ → ℕ → Key) (a : ℕ) (cs : List Choice) (
       listed : same (key P a cs j) ListKey ≡ true → anyTo (opensBucket (leaders P a cs) (heads P a cs) 2) (length (leaders P a cs)) ≡ true
       listed s =
           let group : groupOfHead (getD (heads P a cs) m 0) ≡ 2 =
-          ap groupOfHead (getD-heads K (offs cs) a m inside)
-          ∙ head-group (key P a cs m) (ranged m inside) (all-keyed P a (offs cs) keyed m inside)
-          ∙ ap groupOf (alike ∙ same-eq (key P a cs j) ListKey s) in
+              ap groupOfHead (getD-heads K (offs cs) a m inside)
+              ∙ head-group (key P a cs m) (ranged m inside) (all-keyed P a (offs cs) keyed m inside)
+              ∙ ap groupOf (alike ∙ same-eq (key P a cs j) ListKey s) in
           any-hit (opensBucket (leaders P a cs) (heads P a cs) 2) (length (leaders P a cs)) m (omega (arith, inside, leaders-count P a cs))
           (rw (leading, group))
 
@@ -313,7 +314,7 @@ module _ (S : Settings) (K : ℕ → ℕ → Key) (a : ℕ) (cs : List Choice) (
   led-none keyed e = sym (chosen-keep (member (leaders P a cs) (length (leaders P a cs))) (λ c. same (K (c .offset) a) ListKey) noChoice cs
       (λ j k. (let h : j < clauses P a cs = omega (arith, length-offs cs) in
       eqb-other {m = getD (leaders P a cs) j 0} {n = length (leaders P a cs)}
-      (λ z. omega (arith, leader-key K (offs cs) a ranged j h .high, leaders-count P a cs))
+        (λ z. omega (arith, leader-key K (offs cs) a ranged j h .high, leaders-count P a cs))
       ∙ sym (no-list keyed e j h)
       ∙ ap (λ (o : ℕ). same (K o a) ListKey) (offs-at cs j))))
 
@@ -347,8 +348,8 @@ module _ (S : Settings) (K : ℕ → ℕ → Key) (a : ℕ) (cs : List Choice) (
         ap (records mode number) (lines-append P a cs front last)
         ∙ records-append mode number (linesFor P a cs front) (linesFor P a cs last)
         ∙ ap₂ (λ (x y : List Rec). x ++ y) (turns g number m (omega arith))
-        (ap (λ (x : ℕ). records mode (number + x) (linesFor P a cs last)) (lines-to P a cs ranged g m (omega arith))
-        ∙ line-turn g (number + linesTo (leaders P a cs) (heads P a cs) (S .dynamic) g m) m (omega arith))
+          (ap (λ (x : ℕ). records mode (number + x) (linesFor P a cs last)) (lines-to P a cs ranged g m (omega arith))
+          ∙ line-turn g (number + linesTo (leaders P a cs) (heads P a cs) (S .dynamic) g m) m (omega arith))
 
     keys-lines : (g number : ℕ) → records mode number (linesFor P a cs (keysTo P a cs g (clauses P a cs)))
         ≡ groupLines (leaders P a cs) (heads P a cs) (opensOf S K (offs cs)) (offs cs) tags S a g number
@@ -366,7 +367,7 @@ module _ (S : Settings) (K : ℕ → ℕ → Key) (a : ℕ) (cs : List Choice) (
           go : (b : Bool) → emptyList (leaders P a cs) (heads P a cs) (S .dynamic) ≡ b
               → records mode number (linesFor P a cs (cond b (ListKey ∷ []) (keysTo P a cs 2 (clauses P a cs))))
               ≡ cond b (lineOf (leaders P a cs) (heads P a cs) (opensOf S K (offs cs)) (offs cs) tags S a number (length (leaders P a cs)))
-              (groupLines (leaders P a cs) (heads P a cs) (opensOf S K (offs cs)) (offs cs) tags S a 2 number)
+                (groupLines (leaders P a cs) (heads P a cs) (opensOf S K (offs cs)) (offs cs) tags S a 2 number)
           go true e =
               rw (empty-lone P a cs ranged keyed e (offs (bucketOf P a cs ListKey)), led-none keyed e)
               (sym (line-is S K cs (leaders P a cs) whole (length (leaders P a cs)) tags (heads P a cs) a number own low small))
@@ -387,6 +388,6 @@ module _ (S : Settings) (K : ℕ → ℕ → Key) (a : ℕ) (cs : List Choice) (
           let nl : length ls ≡ listLines (leaders P a cs) (heads P a cs) (S .dynamic) = list-lines P a cs ranged keyed in
           let ns : length ss ≡ linesTo (leaders P a cs) (heads P a cs) (S .dynamic) 3 (length (leaders P a cs)) = group-lines P a cs ranged keyed 3 in
           sym (
-          records-append mode number ls (ss ++ bs)
-          ∙ ap (λ (r : List Rec). records mode number ls ++ r) (records-append mode (number + length ls) ss bs)
-          ∙ rw (nl, ns, list-line number, group-lines-are 3, group-lines-are 1))
+            records-append mode number ls (ss ++ bs)
+            ∙ ap (λ (r : List Rec). records mode number ls ++ r) (records-append mode (number + length ls) ss bs)
+            ∙ rw (nl, ns, list-line number, group-lines-are 3, group-lines-are 1))

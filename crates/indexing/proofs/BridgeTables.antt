@@ -19,6 +19,7 @@ use Rattle.indexing_iter.specs.Clauses.{keyOf}
 use Rattle.indexing_iter.specs.Keys.{isOpen}
 use Rattle.indexing.specs.Upto.{one, countTo, anyTo, listTo}
 use Rattle.indexing.specs.Columns.{openRow, opensTo, member, maskedAt, openMember, deadClauses, tableAt, tablesAt}
+use Rattle.indexing.specs.Expanding.{opensOf}
 use Rattle.indexing.specs.Lists.{add, keep}
 use Rattle.indexing.specs.Lines.{Table, dead, Choice, offs, deadRec, tableRecs, tablesRecs}
 use Rattle.indexing.specs.Build.{Program, programOf, consOpt, openAt, newTable, laterTable, laterTables}
@@ -87,8 +88,8 @@ opens-at K arity os n j b h p q r =
     let inside : ltb (b - 1) arity ≡ true = T-true (ltb (b - 1) arity) (lt→ltb (b - 1) arity (omega arith)) in
     let back : b - 1 + 1 ≡ b = omega arith in
     ap (λ (x : ℕ). eqb x 1) (
-    row-element 0 (λ j. openRow K arity (getD os j 0)) (λ j. length-each (f j) 32) n j (b - 1) h (omega arith)
-    ∙ getD-each (f j) 32 (b - 1) 0 (omega arith))
+      row-element 0 (λ j. openRow K arity (getD os j 0)) (λ j. length-each (f j) 32) n j (b - 1) h (omega arith)
+      ∙ getD-each (f j) 32 (b - 1) 0 (omega arith))
     ∙ rw (inside, back) (one-is (isOpen (K (getD os j 0) b)))
 
 -- ---- a bucket by places
@@ -186,10 +187,6 @@ programBy S K = record {
 pub program-by : (cls : ℕ → ℕ) (S : Settings) (rs : List Rec) (starts : List ℕ) → programOf cls S rs starts ≡ programBy S (keyOf cls rs starts)
 program-by cls S rs starts = refl
 
--- the column of the open arguments of the clauses os
-abbrev pub opensOf : Settings → (ℕ → ℕ → Key) → List ℕ → List ℕ
-opensOf S K os = opensTo K (S .arity) os (length os)
-
 -- ---- the tables of the bucket i of a line of the clauses os
 
 module _ (S : Settings) (K : ℕ → ℕ → Key) (os leaders : List ℕ) (small : S .arity ≤ 32) (whole : length leaders ≡ length os) (i : ℕ) where
@@ -256,6 +253,6 @@ module _ (S : Settings) (K : ℕ → ℕ → Key) (os leaders : List ℕ) (small
       let here : b + 0 ≡ b = omega arith in
       list-first (λ t. at (b + t)) k
       ∙ ap₂ (λ (x y : List Rec). x ++ y) (ap at here ∙ table-at b p (omega arith))
-      (list-cong (λ t. at (b + suc t)) (λ t. at (suc b + t)) k (λ t h. (let e : b + suc t ≡ suc b + t = omega arith in ap at e))
-      ∙ tables-at k (suc b) (omega arith) (omega arith))
+        (list-cong (λ t. at (b + suc t)) (λ t. at (suc b + t)) k (λ t h. (let e : b + suc t ≡ suc b + t = omega arith in ap at e))
+        ∙ tables-at k (suc b) (omega arith) (omega arith))
       ∙ sym (tables-cons (laterTable (programBy S K) b clauses) (laterTables (programBy S K) k (suc b) clauses))

@@ -18,3 +18,5 @@ pub mod BridgeEntries
 pub mod BridgeTables
 pub mod BridgeLines
 pub mod BridgeExpand
+pub mod Sample
+pub mod Listing

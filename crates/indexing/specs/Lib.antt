@@ -6,3 +6,4 @@ pub mod Expand
 pub mod Builder
 pub mod Upto
 pub mod Columns
+pub mod Expanding

@@ -11,3 +11,5 @@ pub mod WitnessLaws
 pub mod Turns
 pub mod ChooseLaws
 pub mod PlaceLaws
+pub mod Walked
+pub mod Called

@@ -1,4 +1,15 @@
-pub mod WellFormed
-pub mod SwitchKeys
 pub mod GoodLines
 pub mod Sound
+pub mod SwitchKeys
+pub mod WellFormed
+pub mod Fine
+pub mod PassParts
+pub mod PassSound
+pub mod PassFound
+pub mod PassIs
+pub mod StepLaws
+pub mod Turns
+pub mod KeyParts
+pub mod PassCode
+pub mod Marking
+pub mod Formed

@@ -1,0 +1,215 @@
+-- The builder by the columns that the code fills gives the builder's call (specs/Builder), on every byte of the buffer.
+-- Assumes nothing.
+use mathlib.Core.Path.{_≡_, refl, sym, ap, ap₂, _∙_, subst}
+use mathlib.Core.Bool.{Bool, true, false, cond}
+use mathlib.Core.List.{List, [], _∷_, _++_}
+use Prim.Native.Nat.{ℕ, zero, suc, _+_, _-_, _*_, _/_, _≤_, _<_}
+use native.Mathlib.Nat.{min-eq-left, min-eq-right, min-le-left}
+use native.Mathlib.Omega.{arith}
+use borrow.Author.Tests.{lt-ltb, le-ltb, ltb-false}
+use lib.Dec.{ltb}
+use lib.ListN.{length, getD, take, drop, replicate, length-map, getD-replicate}
+use lib.Seq.{take-at, drop-append-add, drop-drop}
+use Rattle.records.specs.declared.Rec.{Rec}
+use Rattle.records.specs.Records.{recordsOf, encode, Wrote}
+use Rattle.records.specs.Moves.{written, spliced}
+use Rattle.records.proofs.Laws.{length-recordsOf, wrote-is, wrote-then}
+use Rattle.records.proofs.Grown.{written-front}
+use Rattle.records.proofs.Whole.{Bytes, wrote-front}
+use Rattle.indexing_iter.specs.declared.OptArgIndexKey.{OptArgIndexKey as Key}
+use Rattle.indexing_iter.specs.declared.Settings.{Settings}
+use Rattle.indexing_iter.specs.declared.Checked.{Checked}
+use Rattle.indexing_iter.specs.declared.Checked.the-variants.{Passed, Refused}
+use Rattle.indexing_iter.specs.Keys.{isOpen}
+use Rattle.indexing_iter.specs.Classes.{classOf}
+use Rattle.indexing_iter.specs.Clauses.{keyOf, offsetsOf}
+use Rattle.indexing_iter.specs.Checks.{numberOf, checkCode, checkBuild}
+use Rattle.indexing_iter.proofs.KeyLaws.{code-ok}
+use Rattle.indexing_iter.proofs.CheckLaws.{build-code, build-chosen, build-key}
+use Rattle.indexing_builder.specs.declared.BuildAnswer.{BuildAnswer}
+use Rattle.indexing_builder.specs.declared.BuildAnswer.the-variants.{Done, Refused as Turned}
+use Rattle.indexing.specs.Lists.{keep}
+use Rattle.indexing.specs.Lines.{Index, records, modeOf, size}
+use Rattle.indexing.specs.Build.{openAt}
+use Rattle.indexing.specs.Expand.{initial, build}
+use Rattle.indexing.specs.Columns.{switchRecs, newLinesRecs, seedRecs}
+use Rattle.indexing.specs.Expanding.{headsAt, bitsAt, leadersAt, opensOf, zerosOf, ColumnsOf}
+use Rattle.indexing.specs.Builder.{capacityOf, stored, builtBy, indexOf, buildCall}
+use Rattle.indexing_builder.specs.Answer.{builtOf}
+use Rattle.indexing_builder.specs.Building.{answerBy, Builds}
+use Rattle.indexing.proofs.Size.{length-records}
+use Rattle.index_writer.proofs.ColumnLaws.{offsets-known}
+use Rattle.indexing.proofs.BridgeColumns.{InRange}
+use Rattle.indexing.proofs.BridgeTables.{programBy}
+use Rattle.indexing.proofs.BridgeLines.{Tagged, tagged-initial}
+use Rattle.indexing.proofs.BridgeExpand.{built-size, built-spliced}
+use Rattle.indexing_builder.proofs.ExpansionLaws.{switch-some, known-ranged}
+
+-- ---- the capacity
+
+pub capacity-few : (b : List ℕ) (n : ℕ) → n ≡ length (recordsOf b) → n ≤ 65535 → n ≡ capacityOf b
+capacity-few b n e h =
+    let f : n ≡ length b / 16 = e ∙ length-recordsOf b in
+    let k : length b / 16 ≤ 65535 = omega arith in
+    f ∙ sym (min-eq-left k)
+
+pub capacity-many : (b : List ℕ) (n : ℕ) → n ≡ length (recordsOf b) → 65535 < n → 65535 ≡ capacityOf b
+capacity-many b n e h =
+    let k : 65535 ≤ length b / 16 = omega (arith, length-recordsOf b) in
+    sym (min-eq-right k)
+
+capacity-within : (b : List ℕ) → capacityOf b ≤ length (recordsOf b)
+capacity-within b = omega (arith, length-recordsOf b, min-le-left (length b / 16) 65535)
+
+-- ---- answers
+
+pub answer-refused : (capacity size : ℕ) (skip : Bool) → capacity < size → Turned 9 ≡ answerBy capacity size skip
+answer-refused capacity size skip h = rw (lt-ltb capacity size h)
+
+pub answer-done : (capacity size variable : ℕ) (skip : Bool) {size′ : ℕ} → size ≡ size′ → variable ≡ cond skip 2 1 → size ≤ capacity
+    → Done size variable ≡ answerBy capacity size′ skip
+answer-done capacity size variable skip e f h = rw (← e, f, le-ltb capacity size h)
+
+-- line 0 has at least two records before its switch is made
+pub seed-some : (zeros opens offs tags : List ℕ) (S : Settings) (c : ℕ) → 2 ≤ length (seedRecs zeros opens offs tags S c)
+unfolding seedRecs
+seed-some zeros opens offs tags S c = omega arith
+
+-- line 0 written, and then its switch
+pub built-steps : (b b₁ b₂ : List ℕ) (n : ℕ) (seeds switch lines : List Rec) → n ≡ length seeds → Wrote b b₁ (written (recordsOf b) 0 seeds)
+    → Wrote b₁ b₂ (spliced (recordsOf b₁) 1 n switch lines) → Wrote b b₂ (spliced (written (recordsOf b) 0 seeds) 1 (length seeds) switch lines)
+built-steps b b₁ b₂ n seeds switch lines e v w =
+    wrote-is (ap₂ (λ (x : List Rec) (y : ℕ). spliced x 1 y switch lines) (v .records) e) (wrote-then v w)
+
+-- ---- lists
+
+keep-none : {A : Type 0} (p : A → Bool) (d : A) (xs : List A) → ((i : ℕ) → i < length xs → p (getD xs i d) ≡ false) → keep p xs ≡ []
+keep-none p d [] h = refl
+keep-none p d (x ∷ xs) h = rw (h 0 (omega arith)) (keep-none p d xs (λ i k. h (suc i) (omega arith)))
+
+-- behind what was written over the front of a list it is as it was
+drop-over : {A : Type 0} (s l : List A) (k : ℕ) → length s ≤ k → drop k (s ++ drop (length s) l) ≡ drop k l
+drop-over {A} s l k h =
+    let e : k ≡ length s + (k - length s) = omega arith in
+    ap (λ (x : ℕ). drop x (s ++ drop (length s) l)) e
+    ∙ drop-append-add s (drop (length s) l) (k - length s)
+    ∙ drop-drop (k - length s) (length s) l
+    ∙ ap (λ (x : ℕ). drop x l) (sym e)
+
+-- ---- a refusal of the checks
+
+pub refused-by : (code starts : List ℕ) (S : Settings) (c : ℕ) (b : List ℕ) (a : Checked) (n m : ℕ) → a ≡ checkBuild classOf (S .arity) c code starts
+    → a ≡ Refused n → m ≡ numberOf a → builtOf (Turned m) b ≡ buildCall classOf code starts S c b
+unfolding buildCall
+refused-by code starts S c b a n m e f g =
+    ap (λ (x : ℕ). builtOf (Turned x) b) (g ∙ ap numberOf f) ∙ rw (← e, f)
+
+-- ---- the built index of checked code
+
+module _ (code starts : List ℕ) (S : Settings) (c : ℕ) (passed : checkBuild classOf (S .arity) c code starts ≡ Passed) where
+  abbrev K : ℕ → ℕ → Key
+  K = keyOf classOf (recordsOf code) starts
+
+  abbrev all : List ℕ
+  all = offsetsOf starts
+
+  abbrev zs : List ℕ
+  zs = replicate (length starts) 7
+
+  abbrev idx : Index
+  idx = build (programBy S K) c all
+
+  abbrev mode : ℕ
+  mode = modeOf (S .dynamic)
+
+  pub checked : checkCode classOf (S .arity) code starts ≡ Passed
+  checked = build-code classOf (S .arity) code starts c passed
+
+  pub above : 1 ≤ c
+  above = build-chosen classOf (S .arity) code starts c passed .0
+
+  pub below : c ≤ S .arity
+  below = build-chosen classOf (S .arity) code starts c passed .1
+
+  pub small : S .arity ≤ 32
+  small = code-ok classOf (S .arity) code starts checked .arity-to
+
+  pub few : length starts ≤ 1024
+  few = code-ok classOf (S .arity) code starts checked .few
+
+  ranged : (i : ℕ) → i < length all → InRange (K (getD all i 0) c)
+  ranged = known-ranged code starts (S .arity) checked all (offsets-known starts) c
+
+  keyed : openAt (programBy S K) c all ≡ []
+  keyed = keep-none (λ o. isOpen (K o c)) 0 all (λ i h. build-key classOf (S .arity) code starts c (getD all i 0) passed (offsets-known starts i h))
+
+  own : Tagged S (initial 7 all) zs
+  own = tagged-initial S 7 all zs (λ e j h. getD-replicate (length starts) j 7 0 (omega (arith, length-map starts suc)))
+
+  abbrev seeds : List Rec
+  seeds = seedRecs (zerosOf all) (opensOf S K all) all zs S c
+
+  abbrev switch : List Rec
+  switch = switchRecs (leadersAt K all c) (headsAt K all c) (bitsAt K all c) all (S .dynamic) c 1
+
+  abbrev lines : List Rec
+  lines = newLinesRecs (leadersAt K all c) (headsAt K all c) (opensOf S K all) all zs S c 1
+
+  size-is : length seeds + length switch + length lines - 1 ≡ size idx
+  size-is = built-size S K all c small above below ranged keyed zs own
+
+  -- what the builder leaves of the buffer
+  left : (b b′ : List ℕ) → size idx ≤ length (recordsOf b) → Bytes b → Bytes b′
+      → Wrote b b′ (spliced (written (recordsOf b) 0 seeds) 1 (length seeds) switch lines) → b′ ≡ stored (S .dynamic) idx b
+  unfolding stored
+  left b b′ room h h′ w =
+      let R : List Rec = recordsOf b in
+      let rs : List Rec = records mode 0 idx in
+      let n : length rs ≡ size idx = length-records mode 0 idx in
+      let some : 1 ≤ length switch = switch-some (leadersAt K all c) (headsAt K all c) (bitsAt K all c) all (S .dynamic) c 1 in
+      let front : written R 0 seeds ≡ seeds ++ drop (length seeds) R = written-front R seeds in
+      let taken : take (length seeds) (written R 0 seeds) ≡ seeds =
+          ap (take (length seeds)) front ∙ take-at seeds (drop (length seeds) R) (length seeds) refl in
+      let rest : drop (size idx) (written R 0 seeds) ≡ drop (size idx) R =
+          ap (drop (size idx)) front ∙ drop-over seeds R (size idx) (omega (arith, size-is)) in
+      let e : spliced (written R 0 seeds) 1 (length seeds) switch lines ≡ rs ++ drop (length rs) R =
+          built-spliced S K all c small above below ranged keyed zs own (written R 0 seeds) taken
+          ∙ ap (λ (x : List Rec). rs ++ x) (rest ∙ ap (λ (k : ℕ). drop k R) (sym n)) in
+      wrote-front b b′ rs h h′ (omega arith) (wrote-is e w) ∙ ap (λ (k : ℕ). encode rs ++ drop (16 * k) b) n
+
+  built : (b b′ : List ℕ) (r : BuildAnswer) → Bytes b → Bytes b′ → r ≡ answerBy (capacityOf b) (length seeds + length switch + length lines - 1) (S .skip)
+      → Builds r b b′ seeds switch lines → builtOf r b′ ≡ buildCall classOf code starts S c b
+  unfolding buildCall indexOf
+  built b b′ r h h′ e w =
+      rw passed (go (ltb (capacityOf b) (size idx)) refl (e ∙ ap (λ (n : ℕ). answerBy (capacityOf b) n (S .skip)) size-is))
+    where
+      go : (t : Bool) → ltb (capacityOf b) (size idx) ≡ t → r ≡ cond t (Turned 9) (Done (size idx) (cond (S .skip) 2 1))
+          → builtOf r b′ ≡ builtBy (cond t (Refused 9) Passed) S idx b
+      go true q f =
+          ap (λ (x : BuildAnswer). builtOf x b′) f
+          ∙ ap (λ (y : List ℕ). builtOf (Turned 9) y) (subst (λ (x : BuildAnswer). Builds x b b′ seeds switch lines) f w)
+      go false q f =
+          let room : size idx ≤ length (recordsOf b) = omega (arith, ltb-false (capacityOf b) (size idx) q, capacity-within b) in
+          ap (λ (x : BuildAnswer). builtOf x b′) f
+          ∙ ap (λ (y : List ℕ). builtOf (Done (size idx) (cond (S .skip) 2 1)) y)
+            (left b b′ room h h′ (subst (λ (x : BuildAnswer). Builds x b b′ seeds switch lines) f w))
+
+  -- the same by the columns
+  module _ (os tags leaders heads sizes zeros bits opens : List ℕ) (o : os ≡ offsetsOf starts) (t : tags ≡ replicate (length starts) 7)
+      (C : ColumnsOf K (S .arity) os c leaders heads sizes zeros bits opens) where
+    seeds-are : seedRecs zeros opens os tags S c ≡ seeds
+    seeds-are = rw (C .zeros-are, C .opens-are, o, t)
+
+    switch-is : switchRecs leaders heads bits os (S .dynamic) c 1 ≡ switch
+    switch-is = rw (C .leaders-are, C .heads-are, C .bits-are, o)
+
+    lines-are : newLinesRecs leaders heads opens os tags S c 1 ≡ lines
+    lines-are = rw (C .leaders-are, C .heads-are, C .opens-are, o, t)
+
+    pub built-by : (b b′ : List ℕ) (room : ℕ) (r : BuildAnswer) → Bytes b → Bytes b′ → room ≡ capacityOf b
+        → r ≡ answerBy room (length (seedRecs zeros opens os tags S c) + length (switchRecs leaders heads bits os (S .dynamic) c 1)
+          + length (newLinesRecs leaders heads opens os tags S c 1) - 1) (S .skip)
+        → Builds r b b′ (seedRecs zeros opens os tags S c) (switchRecs leaders heads bits os (S .dynamic) c 1) (newLinesRecs leaders heads opens os tags S c 1)
+        → builtOf r b′ ≡ buildCall classOf code starts S c b
+    built-by b b′ room r h h′ q e w =
+        built b b′ r h h′ (rw (q, seeds-are, switch-is, lines-are) at e) (rw (seeds-are, switch-is, lines-are) at w)
