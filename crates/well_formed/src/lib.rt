@@ -61,7 +61,7 @@ fn one_line(kind: u8) -> usize
 }
 
 // How many lines the first count records have.
-fn count_lines(index: &[u8], count: usize) -> usize
+pub fn count_lines(index: &[u8], count: usize) -> usize
     requires { ⌜ (count ≤ length (recordsOf (now index))) × (count ≤ 65535) ⌝ }
     ensures { λ n. ⌜ n ≡ length (parse (take count (recordsOf (now (index .entry))))) ⌝ }
 {
