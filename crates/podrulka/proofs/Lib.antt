@@ -1,0 +1,2 @@
+pub mod LaidLaws
+pub mod FaceLaws

@@ -1,0 +1,58 @@
+/* The worked show: three clauses of arity 2, their index, and three calls.  usage: show */
+#include <podrulka.h>
+#include <inttypes.h>
+#include <stdio.h>
+
+enum { ARITY = 2, ROOM = 64, GET_LIST = 17, GET_CONSTANT = 18, BODY = 64 };
+
+static const char *const cases[] = { "refused", "fail", "external", "sequence", "variadic" };
+
+static void put(uint8_t *at, uint8_t kind, uint8_t sub, uint16_t half, uint32_t word, uint64_t bits) {
+    at[0] = kind;
+    at[1] = sub;
+    for (int i = 0; i < 2; i++) at[2 + i] = (uint8_t)(half >> 8 * i);
+    for (int i = 0; i < 4; i++) at[4 + i] = (uint8_t)(word >> 8 * i);
+    for (int i = 0; i < 8; i++) at[8 + i] = (uint8_t)(bits >> 8 * i);
+}
+
+static void argument(uint8_t *call, int a, uint8_t sort, uint64_t bits) {
+    put(call + PODRULKA_RECORD * (a - 1), 0, sort, 0, 0, bits);
+}
+
+int main(void) {
+    /* (atom 7, atom 1), (atom 8, list), (atom 7, atom 2): two key records and a body record each */
+    uint8_t code[9 * PODRULKA_RECORD];
+    const uint32_t starts[] = { 0, 3, 6 };
+    for (int i = 0; i < 3; i++) {
+        put(code + 16 * (3 * i), GET_CONSTANT, 0, PODRULKA_ATOM, 1, i == 1 ? 8 : 7);
+        if (i == 1) put(code + 16 * (3 * i + 1), GET_LIST, 0, 0, 2, 0);
+        else put(code + 16 * (3 * i + 1), GET_CONSTANT, 0, PODRULKA_ATOM, 2, i == 0 ? 1 : 2);
+        put(code + 16 * (3 * i + 2), BODY, 0, 0, 0, 0);
+    }
+
+    uint8_t index[ROOM * PODRULKA_RECORD];
+    uint64_t built[PODRULKA_BUILT_PLACES];
+    if (podrulka_build(code, sizeof code, starts, 3, ARITY, 0, 0, 1, index, sizeof index, built, PODRULKA_BUILT_PLACES)) {
+        printf("build refused with %" PRIu64 "\n", built[PODRULKA_BUILT_NUMBER]);
+        return 1;
+    }
+    size_t count = built[PODRULKA_BUILT_COUNT];
+    printf("built %zu records, variable offset %" PRIu64 "\n", count, built[PODRULKA_BUILT_VARIABLE]);
+
+    uint8_t calls[3][ARITY * PODRULKA_RECORD];
+    argument(calls[0], 1, PODRULKA_UNBOUND, 0), argument(calls[0], 2, PODRULKA_LIST, 0);
+    argument(calls[1], 1, PODRULKA_ATOM, 7), argument(calls[1], 2, PODRULKA_ATOM, 9);
+    argument(calls[2], 1, PODRULKA_UNBOUND, 0), argument(calls[2], 2, PODRULKA_UNBOUND, 0);
+    for (int i = 0; i < 3; i++) {
+        uint32_t out[3] = { 0 };
+        uint64_t w[PODRULKA_WALKED_PLACES], seen[PODRULKA_WITNESSED_PLACES];
+        podrulka_walk(code, sizeof code, starts, 3, ARITY, 0, 0, calls[i], sizeof calls[i], index, sizeof index, count, out, 3, w, PODRULKA_WALKED_PLACES);
+        podrulka_witness(code, sizeof code, starts, 3, ARITY, 0, 0, calls[i], sizeof calls[i], seen, PODRULKA_WITNESSED_PLACES);
+        if (w[PODRULKA_WALKED_NUMBER] == PODRULKA_OK) count = w[PODRULKA_WALKED_RECORDS];
+        printf("call %d: %s, %" PRIu64 " tables, %zu records, witness %" PRIu64 ", clauses", i + 1, cases[w[PODRULKA_WALKED_CASE]],
+               w[PODRULKA_WALKED_TABLES], count, seen[PODRULKA_WITNESSED_OFFSET]);
+        for (size_t k = 0; k < w[PODRULKA_WALKED_COUNT]; k++) printf(" %" PRIu32, out[k]);
+        printf("\n");
+    }
+    return 0;
+}

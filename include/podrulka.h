@@ -1,0 +1,138 @@
+/* Podrulka: a Prolog clause index whose every answer is proved.
+ *
+ * The functions read compiled clauses (code), build an index of them, and walk the index for calls. Every
+ * function is total: whatever bytes and numbers it is handed, it returns 0 or a refusal's number (below), and a
+ * refusal changes neither index nor out. No function keeps anything between calls, allocates or calls back.
+ *
+ * What a caller owes, as to any C function that takes buffers:
+ *  - each pointer leads to as many items as the length after it says; where the length is 0 the pointer is not read
+ *    but is not NULL;
+ *  - index, out and result overlap neither each other nor code, starts or call, and nobody writes any of them
+ *    during the call;
+ *  - about PODRULKA_STACK bytes of stack are free.
+ *
+ * Numbers in records are little-endian; a record has 16 bytes: kind (1 byte), sub (1), half (2), word (4), long (8).
+ *
+ * Every function lays its result over the first places of result, as many as result has: the number first, zeros
+ * after it if the call is refused. The enums below name the places.
+ */
+#ifndef PODRULKA_H
+#define PODRULKA_H
+
+#include <stddef.h>
+#include <stdint.h>
+
+#ifdef __cplusplus
+extern "C" {
+#endif
+
+/* bytes of a record of code, call or index */
+#define PODRULKA_RECORD 16
+/* most arguments of a predicate, clauses, records of code, and records of an index that are used of a longer buffer */
+#define PODRULKA_MAX_ARITY 32
+#define PODRULKA_MAX_CLAUSES 1024
+#define PODRULKA_MAX_CODE 32768
+#define PODRULKA_MAX_INDEX 65535
+/* bytes of stack that are enough for every call */
+#define PODRULKA_STACK 524288
+
+/* flags of the settings; other bits are not read */
+enum podrulka_flag {
+    PODRULKA_DYNAMIC = 1,     /* a predicate whose clauses may change: every bucket is a line of its own */
+    PODRULKA_EXTENSIBLE = 2,  /* lines keep a dead table for an argument that some clause leaves open */
+    PODRULKA_NON_COUNTED = 4, /* choice points that inferences do not count: DefaultRetry and DefaultTrust */
+    PODRULKA_SKIP = 8         /* the variable offset is 2, not 1 */
+};
+
+/* The numbers that a call returns. The first that applies is returned; 5 to 7 go clause by clause, record by record.
+ * The builder refuses with 1 to 9, the walk with 1, 3 to 7 and 10 to 12, the witness with 1, 3 to 7 and 10. */
+enum podrulka_number {
+    PODRULKA_OK = 0,
+    PODRULKA_ARITY = 1,       /* the arity is not 1 to 32 */
+    PODRULKA_CHOSEN = 2,      /* the chosen argument c is 0 or above the arity */
+    PODRULKA_CODE = 3,        /* the code is not whole records, or more than 32,768 of them */
+    PODRULKA_STARTS = 4,      /* no starts, more than 1,024, not strictly rising, or one at or past the code's end */
+    PODRULKA_BODY = 5,        /* a clause without a body record */
+    PODRULKA_KEY = 6,         /* a keyed record with sub bits 2 to 7 set, a literal's sort not 1 to 3 or a structure's arity not 1 to 255 */
+    PODRULKA_REGISTER = 7,    /* a register that is 0, above the arity, or not above that of an earlier key of the clause */
+    PODRULKA_NO_KEY = 8,      /* a clause with no key at the chosen argument */
+    PODRULKA_ROOM = 9,        /* the built index has more records than the buffer has room for */
+    PODRULKA_CALL = 10,       /* the call is not one well-made record for each argument */
+    PODRULKA_OUT = 11,        /* out has fewer places than there are clauses */
+    PODRULKA_INDEX = 12       /* the record count is above the capacity, or the records are not a well-formed index */
+};
+
+/* sorts of keys, in the sub field of a call's records; 0 is an unbound argument */
+enum podrulka_sort {
+    PODRULKA_UNBOUND = 0,
+    PODRULKA_ATOM = 1,
+    PODRULKA_INTEGER = 2,
+    PODRULKA_FLOAT = 3,
+    PODRULKA_STRUCTURE = 4,
+    PODRULKA_LIST = 5
+};
+
+/* the places of a builder's result */
+enum podrulka_built {
+    PODRULKA_BUILT_NUMBER = 0,
+    PODRULKA_BUILT_COUNT = 1,    /* records of the index */
+    PODRULKA_BUILT_VARIABLE = 2, /* the variable offset: where a call goes whose chosen argument is unbound */
+    PODRULKA_BUILT_PLACES = 3
+};
+
+/* the places of a walk's result */
+enum podrulka_walked {
+    PODRULKA_WALKED_NUMBER = 0,
+    PODRULKA_WALKED_CASE = 1,    /* one of enum podrulka_case */
+    PODRULKA_WALKED_LINE = 2,    /* the stored line of a Sequence, else 0 */
+    PODRULKA_WALKED_COUNT = 3,   /* how many of out's first places hold the selected clauses' offsets */
+    PODRULKA_WALKED_TABLES = 4,  /* tables looked at */
+    PODRULKA_WALKED_MARK = 5,    /* 0: every expansion of this call is stored; 1: one did not fit (the answer is the same) */
+    PODRULKA_WALKED_RECORDS = 6, /* the new record count: hand it to the next walk */
+    PODRULKA_WALKED_PLACES = 7
+};
+
+/* the cases of an accepted walk */
+enum podrulka_case {
+    PODRULKA_FAIL = 1,     /* no clause agrees */
+    PODRULKA_EXTERNAL = 2, /* one clause is left to try */
+    PODRULKA_SEQUENCE = 3, /* the clauses of one line */
+    PODRULKA_VARIADIC = 4  /* all clauses: no argument decided */
+};
+
+/* the places of a witness's result */
+enum podrulka_witnessed {
+    PODRULKA_WITNESSED_NUMBER = 0,
+    PODRULKA_WITNESSED_OFFSET = 1, /* the offset (start plus 1) of some clause that agrees with the call; 0: none agrees */
+    PODRULKA_WITNESSED_PLACES = 2
+};
+
+/* Builds the index of the clauses of code that begin at starts (numbers of records), with its first switch on
+ * argument c (1 is the first). mask bit i set: argument i + 1 is never indexed on demand. index has room for
+ * index_len / 16 records, at most 65,535 are used; bytes beyond the built records are left as they were.
+ * Returns 0 or a number from 1 to 9. */
+uint32_t podrulka_build(const uint8_t *code, size_t code_len, const uint32_t *starts, size_t starts_len,
+                        uint32_t arity, uint32_t mask, uint32_t flags, uint64_t c,
+                        uint8_t *index, size_t index_len, uint64_t *result, size_t result_len);
+
+/* Walks the index's first count records for a call: one record for each argument (kind 0, sub the sort, half a
+ * structure's arity, word 0, long the bits). code, starts, arity, mask and flags are those that the index was built
+ * with. Tables are expanded on demand while there is room. The offsets of the selected clauses go to out's first
+ * places, in source order; its other places are left as they were. Every clause that agrees with the call is selected.
+ * Returns 0 or one of 1, 3 to 7, 10, 11, 12. */
+uint32_t podrulka_walk(const uint8_t *code, size_t code_len, const uint32_t *starts, size_t starts_len,
+                       uint32_t arity, uint32_t mask, uint32_t flags, const uint8_t *call, size_t call_len,
+                       uint8_t *index, size_t index_len, size_t count, uint32_t *out, size_t out_len,
+                       uint64_t *result, size_t result_len);
+
+/* From code and call alone: the offset of some clause that agrees with the call at every argument, 0 if none does.
+ * Returns 0 or one of 1, 3 to 7, 10. */
+uint32_t podrulka_witness(const uint8_t *code, size_t code_len, const uint32_t *starts, size_t starts_len,
+                          uint32_t arity, uint32_t mask, uint32_t flags, const uint8_t *call, size_t call_len,
+                          uint64_t *result, size_t result_len);
+
+#ifdef __cplusplus
+}
+#endif
+
+#endif
