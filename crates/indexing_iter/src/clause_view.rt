@@ -2,7 +2,6 @@
 // The functions over the view are thin and proved by hand; they take it apart and leave the work to `key_from`, on a slice and
 // a number. Every other caller uses `key_at`, whose parameters are plain.
 use crate::OptArgIndexKey;
-
 ghost use mathlib.Core.Path.{_≡_};
 ghost use lib.ListN.{drop};
 ghost use Rattle.records.specs.Records.{recordsOf};
