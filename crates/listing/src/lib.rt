@@ -62,7 +62,7 @@ fn print_record(r: Rec) {
 }
 
 // Prints the first n records of an index, or all.
-fn print_index(index: &[u8], n: usize) {
+pub fn print_index(index: &[u8], n: usize) {
     let most = records::capacity(index);
     let mut i = 0;
     while i < n {
