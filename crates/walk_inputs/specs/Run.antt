@@ -59,7 +59,7 @@ openedBuilt b out = record { number = b .number; handed = false; count = b .coun
 unfoldable pub openOf : List ℕ → Opened
 openOf input =
     let p = planOf input in
-    let out = replicate (p .out) 0 in
+    let out : List ℕ = replicate (p .out) 0 in
     cond (p .handed)
     (record { number = 0; handed = true; count = p .count; variable = 0; index = startIndex input; out = out })
     (openedBuilt (buildOf input (startIndex input)) out)

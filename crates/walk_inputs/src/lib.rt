@@ -150,7 +150,7 @@ pub fn plan_of(input: &[u8]) -> Plan
 
 // How many records a call has: the arity, and at least one.
 fn step_of(input: &[u8]) -> usize
-    ensures { λ r. ⌜ r ≡ stepOf (now (input .entry)) ⌝ }
+    ensures { λ r. ⌜ (r ≡ stepOf (now (input .entry))) × (1 ≤ r) × (r < 4294967296) ⌝ }
 {
     let settings = inputs::settings_in(inputs::first_record(input));
     let arity = settings.arity as usize;
@@ -172,7 +172,7 @@ pub fn count_calls(input: &[u8]) -> usize
 
 // The bytes of n records from a place on, or as many as there are.
 fn part_of(input: &[u8], at: usize, n: usize) -> &[u8]
-    requires { ⌜ (at < 4294967296) × (n ≤ 65536) ⌝ }
+    requires { ⌜ (at < 1152921504606846976) × (n ≤ 65536) ⌝ }
     ensures { λ r. ⌜ now r ≡ partOf (now (input .entry)) at n ⌝ }
 {
     let len = input.len();
@@ -183,7 +183,8 @@ fn part_of(input: &[u8], at: usize, n: usize) -> &[u8]
 
 // The bytes of call number i.
 fn call_part(input: &[u8], plan: Plan, step: usize, i: usize) -> &[u8]
-    requires { ⌜ (plan ≡ planOf (now input)) × (step ≡ stepOf (now input)) × (length (now input) ≤ 1048576) ⌝ }
+    requires { ⌜ (plan ≡ planOf (now input)) × (length (now input) ≤ 1048576) ⌝ }
+    requires { ⌜ (step ≡ stepOf (now input)) × (1 ≤ step) × (step < 4294967296) ⌝ }
     ensures { λ r. ⌜ now r ≡ callPart (now (input .entry)) i ⌝ }
 {
     if plan.calls <= i {
