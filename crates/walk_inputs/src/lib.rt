@@ -62,6 +62,7 @@ fn left(n: usize, at: usize) -> usize
     0
 }
 
+// A record of zeros.
 fn zeros() -> Rec
     ensures { λ r. ⌜ r ≡ none ⌝ }
 {

@@ -3,7 +3,7 @@ use indexing_walk::Ended;
 use indexing_walk::WalkAnswer;
 use walk_inputs::First;
 
-// A word, a number and the byte after it.
+// A number and what stands after it.
 fn print_number(n: u64, after: &[u8]) {
     io::print_decimal(1, n);
     io::write_all(1, after);
@@ -54,6 +54,11 @@ fn print_mark(whole: bool) {
     io::write_all(1, b"unstored ");
 }
 
+fn print_offset(offset: u32) {
+    io::write_all(1, b" ");
+    io::print_decimal(1, offset as u64);
+}
+
 // The first n numbers of out, each after a blank.
 fn print_offsets(out: &[u32], n: usize) {
     let mut i = 0;
@@ -61,8 +66,7 @@ fn print_offsets(out: &[u32], n: usize) {
         if out.len() <= i {
             return;
         }
-        io::write_all(1, b" ");
-        io::print_decimal(1, out[i] as u64);
+        print_offset(out[i]);
         i += 1;
     }
 }
