@@ -1,5 +1,6 @@
 -- The run of the program walks: the index and out before the first call, and each call's walk, on the parts of an input.
 -- Assumes nothing.
+use mathlib.Core.Path.{_≡_}
 use Prim.Native.Nat.{ℕ, _+_, _-_, _*_, _/_, min}
 use mathlib.Core.Bool.{Bool, true, false, cond}
 use mathlib.Core.List.{List, [], _++_}
@@ -11,6 +12,7 @@ use Rattle.indexing_builder.specs.declared.BuildAnswer.the-variants.{Done, Refu
 use Rattle.indexing_scan.specs.Calls.{Walked, walkCall}
 use Rattle.indexing_walk.specs.declared.WalkAnswer.{WalkAnswer}
 use Rattle.indexing_walk.specs.declared.WalkAnswer.the-variants.{Refused as NotWalked, Answered}
+use Rattle.indexing_walk.specs.Answers.{walkedOf}
 use Rattle.inputs.specs.Input.{settingsOf, chosenOf}
 use Rattle.walk_inputs.specs.declared.Plan.{Plan}
 use Rattle.walk_inputs.specs.declared.First.{First}
@@ -108,7 +110,7 @@ walkedIn p index out w =
 unfoldable pub openCall : List ℕ → List ℕ → List ℕ → Opened
 openCall input index out = let h = heardOf input in openedIn (planOf h) index out (openOf h)
 
--- call number i of any input, in buffers at whose front stand the index and out
+-- call number i of an input, in buffers at whose front stand the index and out
 unfoldable pub walkIn : List ℕ → ℕ → List ℕ → ℕ → List ℕ → Walked
 walkIn input i index count out =
     let p = planOf input in
@@ -118,3 +120,19 @@ walkIn input i index count out =
 abbrev pub nextCount : WalkAnswer → ℕ → ℕ
 nextCount (NotWalked n) count = count
 nextCount (Answered e) count = e .records
+
+-- what a call is handed: the index buffer, its record count and out
+pub record Held : Type 0 where
+  pub index : List ℕ
+  pub count : ℕ
+  pub out : List ℕ
+
+abbrev pub held : List ℕ → ℕ → List ℕ → Held
+held index count out = record { index = index; count = count; out = out }
+
+-- what is handed on after i calls: each call gets what the one before it left
+pub data Handed (input : List ℕ) (first : Held) : ℕ → Held → Type 0 where
+  at-first : Handed input first 0 first
+  onward : {i : ℕ} {s : Held} (a : WalkAnswer) (index out : List ℕ) → Handed input first i s
+      → walkedOf a index out ≡ walkIn input i (s .index) (s .count) (s .out)
+      → Handed input first (i + 1) (held index (nextCount a (s .count)) out)

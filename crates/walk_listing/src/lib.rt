@@ -2,6 +2,8 @@
 use indexing_walk::Ended;
 use indexing_walk::WalkAnswer;
 use walk_inputs::First;
+ghost use Rattle.walk_inputs.specs.Plan.{heardOf};
+ghost use Rattle.walk_inputs.specs.Run.{callsOf, held, Handed};
 
 // A number and what stands after it.
 fn print_number(n: u64, after: &[u8]) {
@@ -93,8 +95,10 @@ fn print_walk(a: WalkAnswer, index: &[u8], capacity: usize, out: &[u32]) {
     }
 }
 
-// The calls in order, each with the index, the count and out that the one before left.
-fn print_calls(input: &[u8], index: &mut [u8; 1048560], first: usize, out: &mut [u32; 65535]) {
+// The calls in order, each with the index, the count and out that the one before left. Answers the last count.
+fn print_calls(input: &[u8], index: &mut [u8; 1048560], first: usize, out: &mut [u32; 65535]) -> usize
+    ensures { λ r. ⌜ Handed (heardOf (now (input .entry))) (held (now (index .entry)) first (now (out .entry))) (callsOf (heardOf (now (input .entry)))) (held (now (index .exit)) r (now (out .exit))) ⌝ }
+{
     let n = walk_inputs::count_calls(input);
     let capacity = walk_inputs::plan_of(input).capacity;
     let mut count = first;
@@ -105,6 +109,7 @@ fn print_calls(input: &[u8], index: &mut [u8; 1048560], first: usize, out: &mut 
         count = walk_inputs::next_count(a, count);
         i += 1;
     }
+    count
 }
 
 // The index that the run begins with, and the calls.
