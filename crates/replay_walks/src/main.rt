@@ -66,7 +66,12 @@ fn replay(buffer: &mut [u8])
     }
 }
 
+// The same with the buffer's length in its type, which is too long to be counted.
+fn replay_all(buffer: &mut [u8; 1048592]) {
+    replay(buffer);
+}
+
 fn main() {
     let mut buffer = [0u8; 1048592];
-    replay(&mut buffer);
+    replay_all(&mut buffer);
 }
