@@ -36,14 +36,8 @@ same-length c = search needs
 
 returns : tie.Need-returns
 returns c =
-    omega (
-      arith,
-      c .before .before .before .before .before .before .before .before .before .before .before .before .before .before .before .before .before .before .before .before .before .before .put-field .ensures .1,
-      c .before .before .before .before .before .before .before .before .before .before .before .before .before .before .before .before .before .put-field2 .ensures .1,
-      c .before .before .before .before .before .before .before .before .before .before .before .before .put-field3 .ensures .1,
-      c .before .before .before .before .before .before .before .put-field4 .ensures .1,
-      c .before .before .put-field5 .ensures .1,
-    )
+    (omega (arith, c .before .before .before .before .before .before .before .before .before .before .before .before .before .before .before .before .before .before .before .before .before .before .put-field .ensures .0, c .before .before .before .before .before .before .before .before .before .before .before .before .before .before .before .before .before .put-field2 .ensures .0, c .before .before .before .before .before .before .before .before .before .before .before .before .put-field3 .ensures .0, c .before .before .before .before .before .before .before .put-field4 .ensures .0, c .before .before .put-field5 .ensures .0),
+    omega (arith, c .before .before .before .before .before .before .before .before .before .before .before .before .before .before .before .before .before .before .before .before .before .before .put-field .ensures .1, c .before .before .before .before .before .before .before .before .before .before .before .before .before .before .before .before .before .put-field2 .ensures .1, c .before .before .before .before .before .before .before .before .before .before .before .before .put-field3 .ensures .1, c .before .before .before .before .before .before .before .put-field4 .ensures .1, c .before .before .put-field5 .ensures .1))
 
 pub put-line-spec : {M : Type 1} → statement M
 put-line-spec =
