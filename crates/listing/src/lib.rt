@@ -3,14 +3,18 @@ use indexing_builder::BuildAnswer;
 use records::Rec;
 ghost use mathlib.Core.Path.{_≡_};
 ghost use Prim.Native.Nat.{_+_, _≤_, _<_};
-ghost use lib.ListN.{length};
+ghost use mathlib.Core.List.{[], _∷_};
+ghost use lib.ListN.{length, drop};
+ghost use lib.Seq.{slice};
 ghost use Rattle.records.specs.Records.{recordsOf};
+ghost use Rattle.listing.specs.Text.{decimal, lineOf, linesOf};
 
 // Puts a number in decimal before a place, from its last digit back, and answers where it begins. No u64 has more than
 // twenty digits.
 fn put_number(text: &mut [u8], end: usize, n: u64) -> usize
     requires { ⌜ (20 ≤ end) × (end ≤ length (now text)) ⌝ }
     ensures { λ r. ⌜ (end ≤ r + 20) × (r ≤ end) ⌝ }
+    ensures { λ r. ⌜ drop r (now (text .exit)) ≡ decimal n (drop end (now (text .entry))) ⌝ }
 {
     let least = end - 20;
     let mut i = end;
@@ -30,17 +34,18 @@ fn put_number(text: &mut [u8], end: usize, n: u64) -> usize
 fn put_field(text: &mut [u8], end: usize, n: u64, after: u8) -> usize
     requires { ⌜ (21 ≤ end) × (end ≤ length (now text)) ⌝ }
     ensures { λ r. ⌜ (end ≤ r + 21) × (r ≤ end) ⌝ }
+    ensures { λ r. ⌜ drop r (now (text .exit)) ≡ decimal n (after ∷ drop end (now (text .entry))) ⌝ }
 {
     let last = end - 1;
-    let at = put_number(text, last, n);
     text[last] = after;
-    at
+    put_number(text, last, n)
 }
 
 // Puts the line of a record before a place, and answers where it begins.
 fn put_line(text: &mut [u8], end: usize, r: Rec) -> usize
     requires { ⌜ (105 ≤ end) × (end ≤ length (now text)) ⌝ }
     ensures { λ q. ⌜ (end ≤ q + 105) × (q ≤ end) ⌝ }
+    ensures { λ q. ⌜ drop q (now (text .exit)) ≡ lineOf r (drop end (now (text .entry))) ⌝ }
 {
     let long_at = put_field(text, end, r.long, b'\n');
     let word_at = put_field(text, long_at, r.word as u64, b' ');
@@ -53,6 +58,7 @@ fn put_line(text: &mut [u8], end: usize, r: Rec) -> usize
 fn put_lines(text: &mut [u8], index: &[u8], from: usize, to: usize) -> usize
     requires { ⌜ (from ≤ to) × (to ≤ length (recordsOf (now index))) × (to ≤ from + 128) × (length (now text) ≡ 13440) ⌝ }
     ensures { λ q. ⌜ q ≤ 13440 ⌝ }
+    ensures { λ q. ⌜ drop q (now (text .exit)) ≡ linesOf (slice from to (recordsOf (now (index .entry)))) [] ⌝ }
 {
     let mut at = 13440;
     let mut i = to;
