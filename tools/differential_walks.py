@@ -67,9 +67,12 @@ def large():
     """Inputs at the ends of the ranges: name, data."""
     yield 'an index of 65,535 records', walks_input(dict(full(1008, 30), calls=[a(3)] + [U] * 31 + [a(3)] * 32), 1008, 2**64 - 1)
     yield 'an index of 65,536 records', walks_input(dict(full(991, 63), calls=[U] * 32), 991, 2**64 - 1)
+    k = case(settings(32, 1, 0, 'e'), [[atom(i % 60), atom(i, 32)] for i in range(1024)])
+    calls = sum([[first] + [U] * 30 + [a(7)] for first in (U, a(4), a(5), a(6), a(4))], [])
+    yield 'an index grown to 65,535 records', walks_input(dict(k, calls=calls), 1024, MOST)
     many = case(settings(3), [[atom(i % 7), atom(i % 11, 2), lst(3) if i % 2 else atom(i, 3)] for i in range(1024)])
     calls = [U, a(4), a(5), a(3), a(5), U, a(2), a(4), L, U, U, L, U, a(4), a(5)]
-    for capacity in (MOST, 6000, 3200): yield '1,024 clauses, capacity %d' % capacity, walks_input(dict(many, calls=calls), 1024, capacity)
+    for capacity in (MOST, 4500, 3200): yield '1,024 clauses, capacity %d' % capacity, walks_input(dict(many, calls=calls), 1024, capacity)
     yield '1,025 clauses', walks_input(dict(case(settings(1), [[atom(i)] for i in range(1025)]), calls=[U]), 1025, MOST)
     for n in (32768, 32769):
         k = case(settings(1), [[atom(7)]], after=[BODY] * (n - 2))

@@ -4,6 +4,7 @@ from cases import random_case, rec, walks_input
 from model import DEAD, INTERNAL, LITERALS, LISTS, MOST, NONE, ON_DEMAND, STRUCTURES, SWITCH, Line, Rules, build, records_of, unpacked, walk
 from walks_model import answers
 
+WIDTHS = [2**8, 2**8, 2**16, 2**32, 2**64]  # of a record's fields
 ODD = [0, 2**63, 2**64 - 1, 0x7ff8000000000000, 0xfff8000000000001]
 
 
@@ -121,7 +122,7 @@ def damaged_index(rnd, index):
         r = list(index[at])
         if how < 6:
             field = rnd.choice([0, 1, 2, 3, 3, 4])
-            r[field] = max(0, rnd.choice([r[field] + 1, r[field] - 1, r[field] + 3, 0, 1, 2, 7, r[field] ^ (INTERNAL if field == 3 else 128)]))
+            r[field] = rnd.choice([r[field] + 1, r[field] - 1, r[field] + 3, 0, 1, 2, 7, r[field] ^ (INTERNAL if field == 3 else 128)]) % WIDTHS[field]
             index[at] = tuple(r)
         elif how == 6: del index[at]
         elif how == 7: index.insert(at, index[at])
