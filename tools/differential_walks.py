@@ -22,9 +22,12 @@ BATCH = 200
 
 def printed_by_program(inputs):
     """What replay_walks prints of each input."""
-    p = subprocess.run([os.path.join(BIN, 'replay_walks')], input=b''.join(map(framed, inputs)), capture_output=True)
-    found = [part.partition('\n')[2] for part in ('\n' + p.stdout.decode()).split('\ninput ')[1:]]
-    return found + ['nothing (exit %d)' % p.returncode] * (len(inputs) - len(found))
+    try:
+        p = subprocess.run([os.path.join(BIN, 'replay_walks')], input=b''.join(map(framed, inputs)), capture_output=True, timeout=300)
+        text, end = p.stdout, 'exit %d' % p.returncode
+    except subprocess.TimeoutExpired as e: text, end = e.stdout or b'', 'no end'
+    found = [part.partition('\n')[2] for part in ('\n' + text.decode()).split('\ninput ')[1:]]
+    return found + ['nothing, ' + end] * (len(inputs) - len(found))
 
 
 def first_difference(want, have):
@@ -43,7 +46,7 @@ def batch(job):
         want = ''.join(t for _, t in found)
         if text is not None and want.rstrip('\n') != text.rstrip('\n'): differs = first_difference(want, text)
         if differs: return counts, 'seed %s, input %s\n%s' % (s, data.hex(), differs)
-        count(counts, data, found)
+        count(counts, found)
         counts['records compared'] += want.count('\n') - len(found)
     return counts, None
 

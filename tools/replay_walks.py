@@ -69,7 +69,7 @@ def as_said(what, found):
     return what == 'mixed' or all(a == what for a in numbers)
 
 
-def count(counts, data, found):
+def count(counts, found):
     counts['lists'] += 1
     counts['calls'] += len(found) - 1
     counts['handed-in indexes'] += found[0][1].startswith('given')
@@ -95,7 +95,7 @@ def main():
         found, differs = expected(oracle, d)
         assert differs is None, differs
         assert as_said(what, found), (what, [a for a, _ in found], d.hex())
-        count(counts, d, found)
+        count(counts, found)
         data.append(framed(d))
         lines.append('input %d\n' % len(lines) + ''.join(text for _, text in found))
     for n, (_, d, last) in enumerate(rows()):
