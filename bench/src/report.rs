@@ -76,6 +76,40 @@ fn table(rows: &[Row], what: What) {
     }
 }
 
+fn minimum(rows: &[Row], input: (usize, usize, &str), what: What, side: Side) -> f64 {
+    let of = |r: &&Row| (r.clauses, r.arity, r.keys, r.what, r.side) == (input.0, input.1, input.2, what, side);
+    rows.iter().find(of).unwrap().min
+}
+
+/// Ours over the Rust's, and over trying every rule, for every input.
+fn ratios(rows: &[Row]) {
+    println!("\nRatios of the minima, ours / Rust and ours / every rule\n");
+    println!("| keys | arity | clauses | build | first | later | bound | later / every rule | bound / every rule |");
+    println!("|---|---|---|---|---|---|---|---|---|");
+    for r in rows.iter().filter(|r| r.what == What::Build && r.side == Side::Ours) {
+        let of = |what, side| minimum(rows, (r.clauses, r.arity, r.keys), what, side);
+        let to = |what, side| ratio(of(what, Side::Ours) / of(what, side));
+        let mut line = format!("| {} | {} | {} |", r.keys, r.arity, r.clauses);
+        WHATS.iter().for_each(|&what| write!(line, " {} |", to(what, Side::Rust)).unwrap());
+        println!("{line} {} | {} |", to(What::Later, Side::Every), to(What::Bound, Side::Every));
+    }
+}
+
+/// By what factor the minimum grows where there are four times as many clauses.
+fn growth(rows: &[Row], arity: usize) {
+    println!("\nGrowth of the minimum from step to step of clauses, arity {arity}\n");
+    println!("| keys | what | side | 16 to 64 | 64 to 256 | 256 to 1,024 |\n|---|---|---|---|---|---|");
+    for keys in ["few", "many"] {
+        for what in WHATS {
+            for &side in what.sides() {
+                let of = |clauses| minimum(rows, (clauses, arity, keys), what, side);
+                let steps: Vec<String> = CLAUSES.windows(2).map(|c| format!("{:.1}", of(c[1]) / of(c[0]))).collect();
+                println!("| {keys} | {} | {} | {} |", what.word(), side.word(), steps.join(" | "));
+            }
+        }
+    }
+}
+
 pub fn all() {
     let mut rows = vec![];
     for many in [false, true] {
@@ -92,4 +126,6 @@ pub fn all() {
     }
     std::fs::write(FILE, text).expect(FILE);
     WHATS.iter().for_each(|&what| table(&rows, what));
+    ratios(&rows);
+    growth(&rows, 4);
 }
