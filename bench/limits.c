@@ -117,8 +117,8 @@ static void walk(const char *what, size_t count, int rounds) {
     free(times);
 }
 
-/* The largest check that an index of ours can need: 1,024 clauses of 31 keys each, as many as code has room for, no two alike at any
- * argument, and a switch on every argument, made by calls that bind one argument each. */
+/* A heavy check of an index that builder and walks made: 1,024 clauses of 31 keys each, as many as code has room for, no two alike at
+ * any argument, and a switch on every argument, made by calls that bind one argument each. */
 static void full(void) {
     enum { ARITY = 31, CLAUSES = 1024, ROUNDS = 50 };
     uint64_t built[PODRULKA_BUILT_PLACES], w[PODRULKA_WALKED_PLACES];

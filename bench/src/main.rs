@@ -9,7 +9,7 @@ extern crate hashbrown;
 
 // The original text over the oracle's stand-ins, read where they stand. Their names are those that the original text uses.
 #[macro_use]
-#[path = "../../../shared/oracle/src/macros.rs"]
+#[path = "../../oracle/original/src/macros.rs"]
 mod macros;
 #[allow(dead_code, unused)]
 #[path = "../../../shared/docs/src/indexing.rs"]
@@ -18,25 +18,25 @@ mod indexing;
 #[path = "../../../shared/docs/src/indexing_iter.rs"]
 mod indexing_iter;
 #[allow(dead_code, unused)]
-#[path = "../../../shared/oracle/src/atom_table.rs"]
+#[path = "../../oracle/original/src/atom_table.rs"]
 mod atom_table;
 #[allow(dead_code, unused)]
-#[path = "../../../shared/oracle/src/forms.rs"]
+#[path = "../../oracle/original/src/forms.rs"]
 mod forms;
 #[allow(dead_code, unused)]
-#[path = "../../../shared/oracle/src/instructions.rs"]
+#[path = "../../oracle/original/src/instructions.rs"]
 mod instructions;
 #[allow(dead_code, unused)]
-#[path = "../../../shared/oracle/src/machine/mod.rs"]
+#[path = "../../oracle/original/src/machine/mod.rs"]
 mod machine;
 #[allow(dead_code, unused)]
-#[path = "../../../shared/oracle/src/offset_table.rs"]
+#[path = "../../oracle/original/src/offset_table.rs"]
 mod offset_table;
 #[allow(dead_code, unused)]
-#[path = "../../../shared/oracle/src/parser.rs"]
+#[path = "../../oracle/original/src/parser.rs"]
 mod parser;
 #[allow(dead_code, unused)]
-#[path = "../../../shared/oracle/src/types.rs"]
+#[path = "../../oracle/original/src/types.rs"]
 mod types;
 
 mod every;

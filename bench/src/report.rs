@@ -42,8 +42,16 @@ fn measured(input: &Input) -> Vec<Row> {
     kinds.iter().zip(&mut samples).map(row).collect()
 }
 
+/// Microseconds, to three digits or so.
 fn figure(ns: f64) -> String {
-    if ns < 10_000.0 { format!("{:.2}", ns / 1e3) } else { format!("{:.1}", ns / 1e3) }
+    let digits = if ns < 1e3 {
+        3
+    } else if ns < 1e4 {
+        2
+    } else {
+        1
+    };
+    format!("{:.digits$}", ns / 1e3)
 }
 
 fn ratio(x: f64) -> String {
