@@ -23,13 +23,8 @@ example: all
 	$(CC) -std=c11 -Wall -Wextra -Werror -pedantic -O2 examples/show.c $$($(PC) --cflags --libs podrulka) -o build/show
 	./build/show | diff - examples/show.out && cat examples/show.out
 
-# builds and runs the timings of docs/PERFORMANCE.md's first table
-limits: all
-	$(CC) -std=c11 -Wall -Wextra -Werror -pedantic -O2 bench/limits.c $$($(PC) --cflags --libs podrulka) -o build/limits
-	./build/limits
-
 clean:
 	rm -rf build build.log
 
 FORCE:
-.PHONY: all example limits clean FORCE
+.PHONY: all example clean FORCE

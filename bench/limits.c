@@ -1,6 +1,5 @@
-/* Two limits that were set beforehand: a build of 1,024 clauses of arity 4 with 1,024 distinct keys, and the check of an index of 65,535
- * records (number 12).  usage: limits [switch60000]   (with the argument: only the switch of 60,000 keys, once, for callgrind)
- * Prints minimum and median of the rounds, in milliseconds. */
+/* Limits: a build of 1,024 clauses of arity 4 with 1,024 distinct keys, and walks whose time is the check of a large index (number 12).
+ * Prints minimum and median of the rounds, in milliseconds of processor time.  usage: limits */
 #define _POSIX_C_SOURCE 200809L
 #include <podrulka.h>
 #include <stdio.h>
@@ -26,7 +25,7 @@ static void put(uint8_t *records, size_t at, uint8_t kind, uint8_t sub, uint16_t
 
 static double now_ms(void) {
     struct timespec t;
-    clock_gettime(CLOCK_MONOTONIC, &t);
+    clock_gettime(CLOCK_THREAD_CPUTIME_ID, &t);
     return (double)t.tv_sec * 1e3 + (double)t.tv_nsec * 1e-6;
 }
 
@@ -118,17 +117,44 @@ static void walk(const char *what, size_t count, int rounds) {
     free(times);
 }
 
-int main(int argc, char **argv) {
-    if (argc > 1 && !strcmp(argv[1], "switch60000")) {
-        walk("one switch of 60,000 keys", one_switch(60000), 1);
-        return 0;
+/* A heavy check of an index that builder and walks made: 1,024 clauses of 31 keys each, as many as code has room for, no two alike at
+ * any argument, and a switch on every argument, made by calls that bind one argument each. */
+static void full(void) {
+    enum { ARITY = 31, CLAUSES = 1024, ROUNDS = 50 };
+    uint64_t built[PODRULKA_BUILT_PLACES], w[PODRULKA_WALKED_PLACES];
+    double times[ROUNDS];
+    uint8_t one[ARITY * PODRULKA_RECORD];
+    size_t at = 0;
+    for (uint32_t i = 0; i < CLAUSES; i++) {
+        starts[i] = (uint32_t)at;
+        for (uint32_t a = 1; a <= ARITY; a++) put(code, at++, GET_CONSTANT, 0, PODRULKA_ATOM, a, i);
+        put(code, at++, BODY, 0, 0, 0, 0);
     }
+    uint32_t r = podrulka_build(code, at * PODRULKA_RECORD, starts, CLAUSES, ARITY, 0, 0, 1, index_buffer, sizeof index_buffer, built, PODRULKA_BUILT_PLACES);
+    if (r != 0) refused("build of 31 arguments", r);
+    size_t count = built[PODRULKA_BUILT_COUNT];
+    for (int a = 2; a <= ARITY + ROUNDS; a++) { /* then calls with every argument unbound */
+        memset(one, 0, sizeof one);
+        if (a <= ARITY) put(one, (size_t)a - 1, 0, PODRULKA_ATOM, 0, 0, 7);
+        double t = now_ms();
+        r = podrulka_walk(code, at * PODRULKA_RECORD, starts, CLAUSES, ARITY, 0, 0, one, sizeof one, index_buffer, sizeof index_buffer, count, out, CLAUSES, w, PODRULKA_WALKED_PLACES);
+        if (r != 0 || w[PODRULKA_WALKED_MARK] != 0) refused("walk of 31 arguments", r);
+        if (a > ARITY) times[a - ARITY - 1] = now_ms() - t;
+        count = w[PODRULKA_WALKED_RECORDS];
+    }
+    char line[200];
+    snprintf(line, sizeof line, "walk: 1,024 clauses of 31 keys, all 31 switches of 1,024 keys, %zu records", count);
+    report(line, times, ROUNDS);
+}
+
+int main(void) {
     printf("| | minimum, ms | median, ms | rounds |\n|---|---|---|---|\n");
     build(200);
     walk("one line, one switch of 2 keys", one_switch(2), 2000);
     walk("13,107 lines of 5 (switch of 2 keys, 1 offset)", small_lines(5, 2, 0, 1), 200);
     walk("lines of 11 (switch of 4 keys, dead, on demand, 2 offsets)", small_lines(11, 4, 2, 2), 200);
     walk("one switch of 1,024 keys", one_switch(1024), 100);
+    full();
     walk("one switch of 10,000 keys", one_switch(10000), 7);
     walk("one switch of 60,000 keys", one_switch(60000), 3);
     return 0;
