@@ -5,19 +5,15 @@ use Rattle.indexing_walk.proofs.refusal_of.Tie as tie
 use Rattle.indexing_walk.proofs.refusal_of.Reads as reads
 use Rattle.indexing_walk.proofs.refusal_of.Lts as lts
 
--- src/lib.rt:452:28
 enum-told : tie.Need-enum-told
 enum-told c = search needs
 
--- src/lib.rt:453:26
 enum-known-c : tie.Need-enum-known-c
 enum-known-c c = search needs
 
--- src/lib.rt:448:1
 returns : tie.Need-returns
 returns c = rw (c .enum-told .given .1) refl
 
--- src/lib.rt:448:1
 returns-2 : tie.Need-returns-2
 returns-2 c = rw (c .before .c .given .1) refl
 
