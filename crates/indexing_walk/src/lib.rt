@@ -1,4 +1,5 @@
-// The walk through a stored index, table by table, with expansion on demand.
+// The walk through a stored index, table by table, with expansion on demand: its loop and the public call.
+// Port of scryer-prolog's switch_on_term and its loop (indexing_scan.rs).
 mod store;
 mod turns;
 
@@ -174,10 +175,7 @@ fn check_index(code: &[u8], starts: &[u32], settings: Settings, index: &[u8], co
 fn refusal_of(c: Checked) -> WalkAnswer
     ensures { λ r. ⌜ r ≡ WalkAnswer.Refused (numberOf c) ⌝ }
 {
-    match c {
-        Checked::Passed => WalkAnswer::Refused(0),
-        Checked::Refused(n) => WalkAnswer::Refused(n),
-    }
+    WalkAnswer::Refused(indexing_iter::checks::number_of(c))
 }
 
 // The walk of a call through an index of count records: refused with the first of 1, 3 to 7, 10, 11 and 12 that applies; else the case, line

@@ -1,6 +1,6 @@
 // Number 12: whether a handed-in index is well formed. Its lines are counted, then its records are checked in one pass from the last to the
 // first, with the keys of each switch compared where its record is met.
-mod forms;
+pub mod forms;
 mod keys;
 mod steps;
 
