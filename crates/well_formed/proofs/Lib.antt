@@ -13,3 +13,4 @@ pub mod KeyParts
 pub mod PassCode
 pub mod Marking
 pub mod Formed
+pub mod ChainLaws
