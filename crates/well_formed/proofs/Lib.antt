@@ -14,3 +14,4 @@ pub mod PassCode
 pub mod Marking
 pub mod Formed
 pub mod CodeKeys
+pub mod ChainLaws
