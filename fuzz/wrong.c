@@ -1,5 +1,5 @@
 /* Wrong libraries: the archive's functions with one fault each, by the number WRONG (linked with --wrap). fuzz/wrong expects target.c to
- * notice every one. */
+ * notice every one, the last two under memcheck. */
 #include "plain.h"
 #include <string.h>
 
@@ -8,7 +8,7 @@ enum {
     WALK_WRITES_BEYOND_COUNT, WALK_WRITES_OUT_BEYOND_COUNT, WALK_DROPS_A_CLAUSE, WALK_NAMES_A_CLAUSE_TWICE, WALK_FORGETS_EXPANSION,
     WALK_ACCEPTS_DAMAGED, BUILD_REFUSES_EXACT_ROOM, RESULT_NOT_SHORTENED, CODE_READ_PAST_END, INDEX_WRITTEN_BEFORE_BEGIN, WITNESS_NONE,
     WITNESS_FIRST, CODE_WRITTEN, WALK_ANSWERS_BY_TURNS, NUMBERS_8_AND_7_SWAPPED,
-    WALK_SAYS_STORED, WALK_SAYS_UNSTORED, WALK_NAMES_ANOTHER_LINE
+    WALK_SAYS_STORED, WALK_SAYS_UNSTORED, WALK_NAMES_ANOTHER_LINE, WALK_LOOKS_BEYOND_COUNT, WALK_LOOKS_AT_OUT
 };
 
 #define COMMON const uint8_t *code, size_t code_len, const uint32_t *starts, size_t starts_len, uint32_t arity, uint32_t mask, uint32_t flags
@@ -18,6 +18,8 @@ uint32_t __real_podrulka_build(COMMON, uint64_t c, uint8_t *index, size_t index_
 uint32_t __real_podrulka_walk(COMMON, const uint8_t *call, size_t call_len, uint8_t *index, size_t index_len, size_t count, uint32_t *out,
                               size_t out_len, uint64_t *result, size_t result_len);
 uint32_t __real_podrulka_witness(COMMON, const uint8_t *call, size_t call_len, uint64_t *result, size_t result_len);
+
+static volatile unsigned looked_at;
 
 uint32_t __wrap_podrulka_build(COMMON, uint64_t c, uint8_t *index, size_t index_len, uint64_t *result, size_t result_len) {
     static uint8_t before[(PODRULKA_MAX_INDEX + 2) * RECORD];
@@ -32,7 +34,7 @@ uint32_t __wrap_podrulka_build(COMMON, uint64_t c, uint8_t *index, size_t index_
         if (n || full[1] != index_len / RECORD || result_len < 3) break;
         memcpy(index, before, index_len);
         return result[0] = 9, result[1] = result[2] = 0, 9;
-    case CODE_READ_PAST_END: if (n == 0) return ((const volatile uint8_t *)code)[code_len] & 0; break;
+    case CODE_READ_PAST_END: if (!n) looked_at += code[code_len]; break;
     case INDEX_WRITTEN_BEFORE_BEGIN: if (!n) index[-1] ^= 1; break;
     case NUMBERS_8_AND_7_SWAPPED: if (n == 8 && result_len) return result[0] = 7, 7; break;
     default: break;
@@ -67,6 +69,8 @@ uint32_t __wrap_podrulka_walk(COMMON, const uint8_t *call, size_t call_len, uint
     static uint32_t before[2048];
     uint64_t full[PODRULKA_WALKED_PLACES];
     memcpy(before, out, 4 * out_len);
+    if (WRONG == WALK_LOOKS_BEYOND_COUNT && count < index_len / RECORD && index[count * RECORD] == 1) looked_at++;
+    if (WRONG == WALK_LOOKS_AT_OUT && out_len && out[0] == 1) looked_at++;
     uint32_t n = __real_podrulka_walk(THESE, call, call_len, index, index_len, count, out, out_len, full, PODRULKA_WALKED_PLACES);
     n = walk_wrong(n, index, index_len, count, out, out_len, before, full);
     if (WRONG == CODE_WRITTEN && code_len) *(uint8_t *)(uintptr_t)code ^= 1;
