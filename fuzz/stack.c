@@ -1,5 +1,7 @@
 /* How much stack the three calls use: the largest inputs, each on a thread whose stack was painted.  usage: stack
  *
+ * Compiled with EXACT and MEMCHECK it makes the same calls for memcheck and measures nothing.
+ *
  * The thread notes where it is, makes the call, and looks for the lowest byte that the call has overwritten; this is done with two paints,
  * and the lower place counts. Fails if some call uses more than four fifths of PODRULKA_STACK. */
 #define _DEFAULT_SOURCE
@@ -32,6 +34,9 @@ static uint32_t do_call(void) {
     }
 }
 
+#ifdef MEMCHECK
+static void once(void) { do_call(); }
+#else
 static void *on_thread(void *unused) {
     uint8_t *here = __builtin_frame_address(0);
     const volatile uint8_t *lowest = stack;
@@ -41,14 +46,14 @@ static void *on_thread(void *unused) {
     return unused;
 }
 
-static size_t once(void) {
+static void once(void) {
     pthread_attr_t attributes;
     pthread_t thread;
     memset(stack, paint, STACK);
     if (pthread_attr_init(&attributes) || pthread_attr_setstack(&attributes, stack, STACK)) abort();
     if (pthread_create(&thread, &attributes, on_thread, NULL) || pthread_join(thread, NULL)) abort();
-    return used;
 }
+#endif
 
 /* the stack of one call; the index is as before at the end */
 static size_t measure(enum which w, const char *what) {
@@ -145,6 +150,7 @@ int main(void) {
     most = full_index();
     for (uint32_t mode = 0; mode < 4; mode++)
         for (int k = 0; k < 3; k++) most = larger(most, deep_walk(rooms[k], mode));
+    fence_drop();
     printf("most: %zu bytes; PODRULKA_STACK is %d\n", most, PODRULKA_STACK);
     return most > PODRULKA_STACK / 5 * 4;
 }
