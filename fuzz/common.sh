@@ -9,4 +9,5 @@ PARTS="fuzz/target.c fuzz/input.c fuzz/plain.c fuzz/fence.c fuzz/tally.c fuzz/bl
 GUIDED="-fsanitize=fuzzer -fno-sanitize-coverage=trace-cmp"
 mkdir -p $MADE
 [ -e $ARCHIVE ] || make
-command -v clang > /dev/null || { echo "needed: clang and libclang-rt-14-dev (Debian)"; exit 2; }
+# Debian packages: clang and libclang-rt-14-dev, valgrind
+need() { command -v "$1" > /dev/null || { echo "needed: $1"; exit 2; }; }

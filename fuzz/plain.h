@@ -37,8 +37,9 @@ void put(uint8_t *at, struct record r);
 uint32_t code_number(const struct program *p);
 /* the first of 1 to 8 that applies, or 0 */
 uint32_t build_number(const struct program *p, uint64_t c);
-/* 10 or 0, and 10 or 12 for a walk of checked code: the paper's order is the caller's */
+/* 10 or 0 */
 uint32_t call_number(const struct program *p, const uint8_t *call, size_t call_len);
+/* number 12 does not apply */
 bool well_formed(const struct program *p, const uint8_t *index, size_t index_len, size_t count);
 
 /* of checked code: the key of clause i at an argument, counted from 1, and whether the clause agrees with a call */

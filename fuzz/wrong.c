@@ -8,7 +8,7 @@ enum {
     WALK_WRITES_BEYOND_COUNT, WALK_WRITES_OUT_BEYOND_COUNT, WALK_DROPS_A_CLAUSE, WALK_NAMES_A_CLAUSE_TWICE, WALK_FORGETS_EXPANSION,
     WALK_ACCEPTS_DAMAGED, BUILD_REFUSES_EXACT_ROOM, RESULT_NOT_SHORTENED, CODE_READ_PAST_END, INDEX_WRITTEN_BEFORE_BEGIN, WITNESS_NONE,
     WITNESS_FIRST, CODE_WRITTEN, WALK_ANSWERS_BY_TURNS, NUMBERS_8_AND_7_SWAPPED,
-    WALK_SAYS_STORED, WALK_SAYS_UNSTORED, WALK_NAMES_ANOTHER_LINE, WALK_LOOKS_BEYOND_COUNT, WALK_LOOKS_AT_OUT
+    WALK_SAYS_STORED, WALK_SAYS_UNSTORED, WALK_NAMES_ANOTHER_LINE, WALK_FAILS_FOR_EXTERNAL, WALK_LOOKS_BEYOND_COUNT, WALK_LOOKS_AT_OUT
 };
 
 #define COMMON const uint8_t *code, size_t code_len, const uint32_t *starts, size_t starts_len, uint32_t arity, uint32_t mask, uint32_t flags
@@ -58,6 +58,7 @@ static uint32_t walk_wrong(uint32_t n, uint8_t *index, size_t index_len, size_t 
     case WALK_ANSWERS_BY_TURNS: if (!n && w[4] > 0) w[4] -= turn++ & 1; break;
     case WALK_SAYS_STORED: w[5] = 0; break;
     case WALK_SAYS_UNSTORED: if (!n) w[5] = 1; break;
+    case WALK_FAILS_FOR_EXTERNAL: if (!n && w[1] == PODRULKA_EXTERNAL) w[1] = PODRULKA_FAIL, w[3] = 0, out[0] = before[0]; break;
     case WALK_NAMES_ANOTHER_LINE: if (!n && w[2] > 1) w[2]--; break;
     default: break;
     }
