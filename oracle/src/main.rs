@@ -5,6 +5,7 @@ mod chance;
 mod checked;
 mod damage;
 mod exhaustive;
+mod lent;
 mod programs;
 mod random;
 mod reshape;
