@@ -91,11 +91,11 @@ static size_t small_lines(size_t size, int entries, int more, int offsets) {
     return at;
 }
 
-/* One line with one switch of so many literals, each an external pointer. */
-static size_t one_switch(uint32_t keys) {
+/* One line with one switch of so many literals, each an external pointer; their bits are multiples of step. */
+static size_t one_switch(uint32_t keys, uint64_t step) {
     put(index_buffer, 0, LINE, 0, 0, 0, 0);
     put(index_buffer, 1, SWITCH, 0, 1, 0, 0);
-    for (uint32_t i = 0; i < keys; i++) put(index_buffer, 2 + i, ENTRY, PODRULKA_ATOM, 0, 1, i);
+    for (uint32_t i = 0; i < keys; i++) put(index_buffer, 2 + i, ENTRY, PODRULKA_ATOM, 0, 1, step * i);
     put(index_buffer, 2 + keys, OFFSET, 1, 0, 1, 0);
     return 3 + keys;
 }
@@ -150,12 +150,14 @@ static void full(void) {
 int main(void) {
     printf("| | minimum, ms | median, ms | rounds |\n|---|---|---|---|\n");
     build(200);
-    walk("one line, one switch of 2 keys", one_switch(2), 2000);
+    walk("one line, one switch of 2 keys", one_switch(2, 1), 2000);
     walk("13,107 lines of 5 (switch of 2 keys, 1 offset)", small_lines(5, 2, 0, 1), 200);
     walk("lines of 11 (switch of 4 keys, dead, on demand, 2 offsets)", small_lines(11, 4, 2, 2), 200);
-    walk("one switch of 1,024 keys", one_switch(1024), 100);
+    walk("one switch of 1,024 keys", one_switch(1024, 1), 100);
     full();
-    walk("one switch of 10,000 keys", one_switch(10000), 7);
-    walk("one switch of 60,000 keys", one_switch(60000), 3);
+    walk("one switch of 10,000 keys", one_switch(10000, 1), 7);
+    walk("one switch of 60,000 keys", one_switch(60000, 1), 50);
+    /* this number is the divisor in well_formed's bucket_of */
+    walk("one switch of 60,000 keys made for one bucket", one_switch(60000, 4294967291), 3);
     return 0;
 }
