@@ -29,11 +29,14 @@ def oracle_input(case):
     return b''.join(head + [rec(242, 0, 0, len(calls))] + calls + case['code'])
 
 
-def walks_input(case, out, capacity):
-    """The input of the program walks: out's length in numbers, the capacity of the index in records."""
+def walks_input(case, out, capacity, index=None, count=0):
+    """The input of the program walks: out's length in numbers, the capacity of the index in records, and if an index is
+    handed in its records and the count that the walk is told."""
     calls = case['calls']
     head = [settings_record(case['settings'])] + [rec(241, 0, 0, s) for s in case['starts']]
-    return b''.join(head + [rec(242, 0, out, len(calls), capacity)] + calls + case['code'])
+    head.append(rec(242, int(index is not None), out, len(calls), capacity))
+    if index is not None: head.append(rec(243, 0, 0, len(index), count))
+    return b''.join(head + calls + [rec(*r) for r in index or []] + case['code'])
 
 
 def some_key(rnd, few):

@@ -15,7 +15,7 @@ use Rattle.records.proofs.Fitting.{fit-none, fit-recordsOf}
 use Rattle.records.proofs.Whole.{Bytes}
 use Rattle.indexing_iter.specs.declared.Settings.{Settings}
 use Rattle.indexing_iter.specs.declared.OptArgIndexKey.{OptArgIndexKey as Key}
-use Rattle.indexing_iter.specs.declared.OptArgIndexKey.the-variants.{None, Literal, Structure, List as ListKey}
+use Rattle.indexing_iter.specs.declared.OptArgIndexKey.the-variants.{Literal, Structure, List as ListKey}
 use Rattle.indexing_iter.specs.declared.InstructionArg.{InstructionArg}
 use Rattle.indexing_iter.specs.declared.InstructionArg.the-variants.{ArgedHead, ArglessHead, NonHead, Prologue}
 use Rattle.indexing_iter.specs.declared.Checked.{Checked}
@@ -25,13 +25,13 @@ use Rattle.indexing_iter.specs.Keys.{arityOf, bitsOf, isOpen, keyStep, keyIn}
 use Rattle.indexing_iter.specs.Clauses.{endOf, clausesOf, offsetsOf, clauseAt, keyOf, known}
 use Rattle.indexing_iter.specs.Checks.{orElse, refuse, checkArity, checkChosen, checkSize, checkStarts, risingBelow, hasBody, recordBad, registerBad, registerStep}
 use Rattle.indexing_iter.specs.Checks.{checkRecords, checkClause, checkClauses, openSomewhere, checkKeyed, checkClausesOf, checkCode, checkBuild}
-use Rattle.indexing_iter.proofs.CheckLaws.{Rising as Rises, code-arity, code-starts, code-offsets, offset-known, build-code, build-chosen}
-use Rattle.indexing_iter.proofs.KeyLaws.{KeyInRange, or-else-first, or-else-next, known-small, key-of-range}
-use Rattle.indexing.proofs.Tests.{bool-absurd, both, or-false, le-true}
+use Rattle.indexing_iter.proofs.CheckLaws.{Rising, code-arity, code-starts, code-offsets, offset-known, build-code, build-chosen}
+use Rattle.indexing_iter.proofs.KeyLaws.{or-else-first, or-else-next, known-small}
+use Rattle.indexing.proofs.Tests.{both, le-true}
 use Rattle.indexing.specs.Build.{Program, programOf}
 use Rattle.indexing.specs.Lines.{Index, size}
 use Rattle.indexing.specs.Builder.{capacityOf, stored, checkRoom, builtBy, indexOf, buildCall}
-use Rattle.indexing_scan.proofs.Rising.{Rising}
+use Rattle.well_formed.proofs.CodeKeys.{code-keys}
 use Rattle.well_formed.specs.WellFormed.{risingOk, keyOk}
 
 -- ---- no check refuses with the number 0
@@ -185,38 +185,9 @@ code-narrow : (cls : ℕ → ℕ) (code starts : List ℕ) (o a : ℕ) → Bytes
 unfolding keyOf
 code-narrow cls code starts o a f = narrow-in cls (clauseAt (recordsOf code) starts o) a (fit-clause (recordsOf code) starts o (fit-recordsOf code f))
 
--- no clause has an offset that is not known
-no-clause : (rs : List Rec) (starts : List ℕ) (o : ℕ) → known starts o ≡ false → clauseAt rs starts o ≡ []
-unfolding known clauseAt
-no-clause rs [] o e = refl
-no-clause rs (s ∷ ss) o e = let x = or-false (eqb (suc s) o) (known ss o) e in rw (x .0) (no-clause rs ss o (x .1))
-
-range-ok : (k : Key) → KeyInRange k → isOpen k ≡ false → keyOk k ≡ true
-range-ok None r e = bool-absurd refl e
-range-ok (Literal s b) r e = both (le-true 1 s (r .0)) (le-true s 3 (r .1))
-range-ok (Structure n f) r e = refl
-range-ok ListKey r e = refl
-
-no-key : (cls : ℕ → ℕ) (rs : List Rec) (starts : List ℕ) (o a : ℕ) → known starts o ≡ false → isOpen (keyOf cls rs starts o a) ≡ true
-unfolding keyOf keyIn
-no-key cls rs starts o a k = rw (no-clause rs starts o k)
-
--- a bound key of checked code passes the test of a switch's keys
-code-keys : (cls : ℕ → ℕ) (arity : ℕ) (code starts : List ℕ) (o a : ℕ) → checkCode cls arity code starts ≡ Passed
-    → isOpen (keyOf cls (recordsOf code) starts o a) ≡ false → keyOk (keyOf cls (recordsOf code) starts o a) ≡ true
-code-keys cls arity code starts o a p e = go (known starts o) refl
-  where
-    go : (t : Bool) → known starts o ≡ t → keyOk (keyOf cls (recordsOf code) starts o a) ≡ true
-    go true k = range-ok (keyOf cls (recordsOf code) starts o a) (key-of-range cls arity code starts o a k p) e
-    go false k = bool-absurd (no-key cls (recordsOf code) starts o a k) e
-
 -- ---- the offsets
 
-rising-as : (n : ℕ) (os : List ℕ) → Rises n os → Rising n os
-rising-as n [] r = tt
-rising-as n (o ∷ os) r = (r .0, rising-as (suc o) os (r .1))
-
-rising-ok : (kn : ℕ → Bool) (n : ℕ) (os : List ℕ) → Rises n os → ((i : ℕ) → i < length os → kn (getD os i 0) ≡ true) → risingOk kn n os ≡ true
+rising-ok : (kn : ℕ → Bool) (n : ℕ) (os : List ℕ) → Rising n os → ((i : ℕ) → i < length os → kn (getD os i 0) ≡ true) → risingOk kn n os ≡ true
 rising-ok kn n [] r f = refl
 rising-ok kn n (o ∷ os) r f =
     both (le-true n o (r .0)) (both (f 0 (omega arith)) (rising-ok kn (suc o) os (r .1) (λ i h. f (suc i) (omega arith))))
@@ -245,7 +216,7 @@ ready cls code starts S c bytes e =
       low = build-chosen cls (S .arity) code starts c e .0;
       high = build-chosen cls (S .arity) code starts c e .1;
       some = omega (arith, code-starts cls (S .arity) code starts p .0);
-      rising = rising-as 1 (offsetsOf starts) (code-offsets cls (S .arity) code starts p);
+      rising = code-offsets cls (S .arity) code starts p;
       offsets = rising-ok (known starts) 1 (offsetsOf starts) (code-offsets cls (S .arity) code starts p) (λ i h. offset-known starts i (omega arith));
       small = λ o k. omega (arith, known-small cls (S .arity) code starts o k p);
       keys = λ o a. code-keys cls (S .arity) code starts o a p;

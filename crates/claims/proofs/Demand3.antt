@@ -25,7 +25,8 @@ use Rattle.indexing.specs.Lines.{Index, size}
 use Rattle.indexing.specs.Lists.{every}
 use Rattle.indexing.specs.Reading.{parse}
 use Rattle.well_formed.specs.WellFormed.{wellFormed}
-use Rattle.indexing_scan.proofs.Rising.{args, Rising}
+use Rattle.indexing_iter.proofs.CheckLaws.{Rising}
+use Rattle.indexing_scan.proofs.Rising.{args}
 use Rattle.indexing_scan.specs.Agree.{Call}
 use Rattle.indexing_scan.specs.Calls.{argumentOk, callOf, checkIndex, Walked, caseNumber, walkedBy, resultOf, walkCall}
 use Rattle.indexing_scan.specs.Walk.{Step, Case, fail, external, sequence, variadic, line, Answer, Result, walk}

@@ -21,7 +21,7 @@ use Rattle.indexing.specs.Build.{Program, consOpt, consLine, after, laterTables
 use Rattle.indexing.specs.Build.{linesFor, entriesFor}
 use Rattle.indexing.specs.Expand.{expanded, added, expand, seed, build}
 use Rattle.indexing.specs.Lines.{Ptr, ext, int, Entry, Table, switch, onDemand, dead, Choice, Line, Index, noLine, lineAt, offs, argOf, swap, word}
-use Rattle.indexing.specs.Lines.{entryRec, deadRec, tableRecs, tablesRecs, choiceRec, modeOf, lineRec, records, size}
+use Rattle.indexing.specs.Lines.{entryRec, deadRec, tableRecs, tablesRecs, choiceRec, modeOf, lineRec, records}
 use Rattle.indexing.specs.Lists.{keep, any, every}
 use Rattle.well_formed.specs.WellFormed.{risingOk, argsOk, keyOk, keysOk, entryKeys, tagOk, someOk, choicesOk, pointerOk, tableOk, lineOk, linesOk, indexOk}
 use Rattle.well_formed.proofs.SwitchKeys.{keys-parts}
@@ -214,8 +214,3 @@ module _ (known : ℕ → Bool) (small : (o : ℕ) → known o ≡ true → o < 
 
     pub fit-index : indexOk arity dynamic known idx ≡ true → All NarrowLine idx → AllFit (records (modeOf dynamic) 0 idx)
     fit-index e f = fit-lines 0 idx (and-true (ltb 0 (length idx)) (linesOk arity dynamic known idx 0 idx) e .1) f (omega arith)
-
--- a line has a record
-pub lines-size : (idx : Index) → length idx ≤ size idx
-lines-size [] = omega arith
-lines-size (l ∷ ls) = omega (arith, lines-size ls)

@@ -22,7 +22,8 @@ use Rattle.well_formed.proofs.Sound.{index-length, ok-parse, ok-well, grown-ok}
 use Rattle.well_formed.proofs.WellFormed.{well-orderly, well-index}
 use Rattle.well_formed.specs.WellFormed.{keyOk, indexOk, wellFormed}
 use Rattle.indexing_scan.proofs.Again.{again}
-use Rattle.indexing_scan.proofs.Rising.{args, Rising, path-rising}
+use Rattle.indexing_iter.proofs.CheckLaws.{Rising}
+use Rattle.indexing_scan.proofs.Rising.{args, path-rising}
 use Rattle.indexing_scan.proofs.Same.{kept, same-from}
 use Rattle.indexing_scan.proofs.Steps.{steps-is-walk}
 use Rattle.indexing_scan.proofs.Walks.{has-line, on-demand, walk-answer, walk-grown, grown-answer}

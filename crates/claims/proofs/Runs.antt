@@ -16,7 +16,8 @@ use Rattle.indexing.specs.Expand.{build}
 use Rattle.indexing.specs.Lines.{Index}
 use Rattle.indexing.specs.Lists.{keep}
 use Rattle.indexing_scan.proofs.Again.{again}
-use Rattle.indexing_scan.proofs.Rising.{args, Rising, path-rising}
+use Rattle.indexing_iter.proofs.CheckLaws.{Rising}
+use Rattle.indexing_scan.proofs.Rising.{args, path-rising}
 use Rattle.indexing_scan.proofs.Walks.{has-line, grown-answer, walk-answer, walk-grown}
 use Rattle.indexing_scan.specs.Agree.{Call, agree}
 use Rattle.indexing_scan.specs.Walk.{Place, line, unstored, Move, skip, stop, pass, out, goto, fail, Answer, look, act, move, answerFrom, answer}

@@ -13,13 +13,15 @@ use Rattle.indexing_iter.specs.Keys.{groupOf, isOpen, same}
 use Rattle.indexing_iter.specs.declared.OptArgIndexKey.{OptArgIndexKey as Key}
 use Rattle.indexing_iter.specs.declared.OptArgIndexKey.the-variants.{List as ListKey}
 use Rattle.indexing.proofs.Expand.{single-is, no-switch}
-use Rattle.indexing.proofs.Keys.{same-eq, by-group}
+use Rattle.indexing_iter.proofs.SameKeys.{same-eq}
+use Rattle.indexing.proofs.Keys.{by-group}
 use Rattle.indexing.proofs.Lists.{add-empty, keep-sublist, any-keep, any-append}
 use Rattle.indexing.proofs.Tests.{eqb-same, bool-absurd, and-true, or-false, not-false, not-true}
 use Rattle.indexing.specs.Build.{Program, openAt, keysAt, literals, lists, structures, bucket, lone, buckets, virtual}
 use Rattle.indexing.specs.Lines.{Ptr, Entry, Table, switch, onDemand, dead, Index}
 use Rattle.indexing.specs.Lists.{add, keep, any, distinct}
-use Rattle.indexing_scan.proofs.Rising.{Rising, rising-weaken}
+use Rattle.indexing_iter.proofs.CheckLaws.{Rising}
+use Rattle.indexing_scan.proofs.Rising.{rising-weaken}
 use Rattle.indexing_scan.specs.Agree.{Call, agreeAt, agreeFrom, agree}
 use Rattle.indexing_scan.specs.Walk.{Chosen, equal, marked, pick, choose, Place, unstored, Move, skip, stop, pass, out, goto, Answer, look, act}
 use Rattle.indexing_scan.specs.Walk.{clauses, enter, tableAt, followNew, demand, moveAt, moveOn, move, answerFrom}

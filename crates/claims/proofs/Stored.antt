@@ -1,6 +1,6 @@
 -- An index that comes of the built one by expansions that fit, stored in the buffer: it is read back, and is well formed.
 -- Assumes nothing.
-use mathlib.Core.Path.{_≡_, refl, _∙_, ap}
+use mathlib.Core.Path.{_≡_, _∙_, ap}
 use mathlib.Core.Bool.{Bool, true}
 use mathlib.Core.List.{List, [], _∷_, _++_}
 use Prim.Native.Nat.{ℕ, _+_, _-_, _*_, _/_, _≤_, min}
@@ -8,11 +8,11 @@ use native.Mathlib.Omega.{arith}
 use lib.ListN.{length, take, drop, length-append, length-drop}
 use lib.Seq.{take-at, drop-append-add, drop-drop}
 use Rattle.records.specs.declared.Rec.{Rec}
-use Rattle.records.specs.Records.{encodeRec, encode, recordsOf, AllFit}
+use Rattle.records.specs.Records.{encode, recordsOf, AllFit}
 use Rattle.records.proofs.Fitting.{recordsOf-encode}
-use Rattle.records.proofs.Laws.{length-encodeRec}
+use Rattle.records.proofs.Laws.{length-encode}
 use Rattle.indexing.proofs.Grown.{Grown, grown-fits}
-use Rattle.indexing.proofs.Size.{length-records}
+use Rattle.indexing.proofs.Size.{length-records, lines-size}
 use Rattle.indexing.specs.Build.{Program}
 use Rattle.indexing.specs.Builder.{capacityOf, stored}
 use Rattle.indexing.specs.Expand.{build}
@@ -21,12 +21,7 @@ use Rattle.indexing.specs.Reading.{parse}
 use Rattle.well_formed.proofs.Sound.{ok-parse, ok-well, grown-ok, built-ok}
 use Rattle.well_formed.specs.WellFormed.{risingOk, indexOk, wellFormed}
 use Rattle.claims.proofs.Accepted.{Ready}
-use Rattle.claims.proofs.Fields.{narrow-built, narrow-grown, fit-index, lines-size}
-
-length-encode : (rs : List Rec) → length (encode rs) ≡ 16 * length rs
-unfolding encode
-length-encode [] = refl
-length-encode (r ∷ rs) = omega (arith, length-append (encodeRec r) (encode rs), length-encodeRec r, length-encode rs)
+use Rattle.claims.proofs.Fields.{narrow-built, narrow-grown, fit-index}
 
 -- ---- a stored index, whatever it is
 

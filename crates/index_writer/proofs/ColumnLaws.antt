@@ -22,13 +22,16 @@ use Rattle.indexing_iter.specs.declared.Checked.the-variants.{Passed}
 use Rattle.indexing_iter.specs.Keys.{isOpen, headOf}
 use Rattle.indexing_iter.specs.Clauses.{keyOf, keysOf, known, offsetsOf}
 use Rattle.indexing_iter.specs.Checks.{checkCode, risingBelow}
-use Rattle.indexing_iter.proofs.KeyLaws.{KeyInRange, key-of-range, collected-at, CodeOk, code-ok, rising-tail, rising-end, rising-within}
+use Rattle.indexing_iter.proofs.CheckLaws.{rising-tail, rising-head, end-below}
+use Rattle.indexing_iter.proofs.SameKeys.{KeyInRange}
+use Rattle.indexing_iter.proofs.KeyLaws.{key-of-range, collected-at, CodeOk, code-ok}
 use Rattle.indexing.proofs.BridgeLists.{list-cong, length-each, getD-each}
 use Rattle.indexing.proofs.BridgeColumns.{leader-first}
 use Rattle.indexing.proofs.Tests.{eqb-same, eqb-other, or-true}
 use Rattle.indexing.specs.Upto.{one, countTo, listTo}
 use Rattle.indexing.specs.Columns.{sameAt, firstSame, leaderOf, leadersTo, member, sizeOf, sizesTo, openRow, opensTo}
-use Rattle.index_writer.specs.Choices.{wordsOf, subsOf, AllBelow, AllKnown, openNumbers}
+use Rattle.index_writer.specs.Choices.{AllBelow, AllKnown, openNumbers}
+use Rattle.index_writer.proofs.Upto.{count-le}
 
 -- a slice that was filled to its end is the list
 pub fill-whole : {A : Type 0} {s l₀ l : List A} {i : ℕ} → Filled s l₀ l i → length l₀ ≡ length s → length s ≤ i → l ≡ s
@@ -88,15 +91,6 @@ zeros-below leaders n e i h =
     omega arith
 
 -- ---- sizes
-
-count-le : (t : ℕ → Bool) (n : ℕ) → countTo t n ≤ n
-unfolding countTo
-count-le t zero = omega arith
-count-le t (suc n) = go (t n) (count-le t n)
-  where
-    go : (b : Bool) → countTo t n ≤ n → countTo t n + one b ≤ suc n
-    go true h = omega arith
-    go false h = omega arith
 
 module _ (leaders : List ℕ) (n : ℕ) where
   -- the sizes of the first n buckets by the first j clauses
@@ -251,7 +245,7 @@ offsets-known (s ∷ ss) (suc i) h = rw (offsets-known ss i (le-of-suc-le-suc h)
 
 rising-below : (n : ℕ) (starts : List ℕ) → risingBelow n starts ≡ true → AllBelow n starts
 rising-below n [] e i h = absurd (not-suc-le-zero h)
-rising-below n (s ∷ ss) e zero h = omega (arith, rising-end n s ss e, rising-within n ss (rising-tail n s ss e))
+rising-below n (s ∷ ss) e zero h = omega (arith, rising-head n s ss e, end-below n ss (rising-tail n s ss e))
 rising-below n (s ∷ ss) e (suc i) h = rising-below n ss (rising-tail n s ss e) i (le-of-suc-le-suc h)
 
 -- the starts of checked code are below 32768

@@ -5,7 +5,7 @@ use native.Mathlib.Nat.{not-suc-le-zero, add-zero}
 use native.Mathlib.Numerals.{add-one}
 use native.Mathlib.Omega.{arith}
 use native.Mathlib.Decide.{decLe}
-use mathlib.Core.Bool.{Bool, true, false, cond}
+use mathlib.Core.Bool.{Bool, true, false}
 use mathlib.Core.List.{List, [], _∷_, _++_}
 use lib.ListN.{length, getD, length-append, List·getD-append}
 use lib.Seq.{getD-at}
@@ -46,18 +46,6 @@ count-le t (suc n) = go (t n) (count-le t n)
 -- none of the numbers passed, and they are all
 pub any-end : (t : ℕ → Bool) (n i : ℕ) → anyTo t i ≡ false → i ≡ n → false ≡ anyTo t n
 any-end t n i h e = sym h ∙ ap (anyTo t) e
-
--- a number below n that passes the test
-pub any-at : (t : ℕ → Bool) (n j : ℕ) → j < n → t j ≡ true → anyTo t n ≡ true
-unfolding anyTo
-any-at t zero j h e = absurd (not-suc-le-zero h)
-any-at t (suc n) j h e = go (t n) refl (λ k. any-at t n j k e)
-  where
-    go : (b : Bool) → t n ≡ b → (j < n → anyTo t n ≡ true) → cond (t n) true (anyTo t n) ≡ true
-    go true q k = rw q
-    go false q k =
-        let w : j ≡ n → ⊥ = λ x. (let z : _≡_ {A = ℕ} 0 1 = cc (ap t x) in omega arith) in
-        rw (q, k (omega arith))
 
 -- lists gathered
 module _ {ℓ} {A : Type ℓ} (f : ℕ → List A) where

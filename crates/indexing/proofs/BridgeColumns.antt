@@ -12,7 +12,7 @@ use Rattle.indexing_iter.specs.Keys.{sortOf, arityOf, bitsOf, groupOf, isOpen, 
 use Rattle.indexing_iter.specs.declared.OptArgIndexKey.{OptArgIndexKey as Key}
 use Rattle.indexing_iter.specs.declared.OptArgIndexKey.the-variants.{List as ListKey, Literal, None, Structure}
 use Rattle.indexing.proofs.BridgeLists.{any-hit, any-clear, length-each, getD-each}
-use Rattle.indexing.proofs.Keys.{same-refl, same-eq}
+use Rattle.indexing_iter.proofs.SameKeys.{same-refl, same-eq}
 use Rattle.indexing.proofs.Tests.{eqb-same, eqb-true, eqb-other, bool-absurd, not-true, true-T, le-true}
 use Rattle.indexing.specs.Columns.{groupOfHead, sameAt, firstSame, leaderOf, leadersTo, headsTo, bitsTo, member, leads}
 use Rattle.indexing.specs.Expanding.{headsAt, bitsAt, leadersAt}

@@ -17,7 +17,7 @@ use Rattle.indexing.proofs.BridgeColumns.{InRange, head-group, keyAt, l
 use Rattle.indexing.proofs.BridgeLists.{count-any, list-cong, list-each, length-some, list-lone, map-list}
 use Rattle.indexing.proofs.BridgeLists.{keep-list, keep-one, keep-places, keep-neither, keep-within, distinct-each}
 use Rattle.indexing.proofs.Expand.{offs-bucket}
-use Rattle.indexing.proofs.Keys.{same-refl}
+use Rattle.indexing_iter.proofs.SameKeys.{same-refl}
 use Rattle.indexing.proofs.Lists.{add-empty}
 use Rattle.indexing.proofs.Tests.{eqb-other, bool-absurd, not-true, le-true, le-of}
 use Rattle.indexing.specs.Build.{Program, single, consLine, openAt, newLine, keysAt, lists, bucket, bucketOf, lone, linesFor}

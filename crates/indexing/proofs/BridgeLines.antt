@@ -25,7 +25,7 @@ use Rattle.indexing.specs.Build.{Program, consLine, openAt, laterTables,
 use Rattle.indexing.specs.Build.{structures, bucketOf, linesFor, newLines}
 use Rattle.indexing.specs.Expand.{initial, seed}
 use Rattle.indexing.proofs.Built.{offs-initial}
-use Rattle.indexing.proofs.Keys.{same-eq}
+use Rattle.indexing_iter.proofs.SameKeys.{same-eq}
 use Rattle.indexing.proofs.Records.{records-append}
 use Rattle.indexing.proofs.Tests.{eqb-same, eqb-other, bool-absurd, not-true}
 use Rattle.indexing.proofs.BridgeLists.{list-cong, any-hit, any-clear}

@@ -24,6 +24,7 @@ use Rattle.indexing.specs.Lists.{add, keep}
 use Rattle.indexing.specs.Lines.{Table, dead, Choice, offs, deadRec, tableRecs, tablesRecs}
 use Rattle.indexing.specs.Build.{Program, programOf, consOpt, openAt, newTable, laterTable, laterTables}
 use Rattle.indexing.proofs.BridgeLists.{list-cong, any-cong, length-each, getD-each}
+use Rattle.indexing.proofs.Expand.{add-offs}
 use Rattle.indexing.proofs.Tests.{T-true}
 
 -- ---- loops over the numbers below n, with the first turn taken apart
@@ -161,10 +162,6 @@ module _ {A : Type 0} where
         go : (b : Bool) (r : List A) → cond b (p x) false || occupied (keep p r) ≡ occupied (keep p (add b x r))
         go true r = kept (p x) (keep p r)
         go false r = refl
-
-add-offs : (b : Bool) (c : Choice) (cs : List Choice) → offs (add b c cs) ≡ add b (c .offset) (offs cs)
-add-offs true c cs = refl
-add-offs false c cs = refl
 
 pub offs-chosen : (t : ℕ → Bool) (cs : List Choice) → offs (chosen t cs) ≡ chosen t (offs cs)
 offs-chosen t [] = refl

@@ -32,7 +32,7 @@ single-is false [] o e = let z : _≡_ {A = ℕ} 0 1 = cc in absurd (omega arith
 single-is false (x ∷ []) o e = cc
 single-is false (x ∷ (y ∷ os)) o e = let z : _≡_ {A = ℕ} 0 1 = cc in absurd (omega arith)
 
-add-offs : (b : Bool) (c : Choice) (cs : List Choice) → offs (add b c cs) ≡ add b (c .offset) (offs cs)
+pub add-offs : (b : Bool) (c : Choice) (cs : List Choice) → offs (add b c cs) ≡ add b (c .offset) (offs cs)
 add-offs true c cs = refl
 add-offs false c cs = refl
 

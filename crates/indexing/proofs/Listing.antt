@@ -17,7 +17,7 @@ use Rattle.indexing_iter.specs.Clauses.{clausesOf, clauseAt, keyOf}
 use Rattle.indexing_iter.specs.Checks.{risingBelow, hasBody, recordBad, checkRecords, checkClause, checkClauses, openSomewhere, checkClausesOf, checkBuild}
 use Rattle.indexing.proofs.Sample.{Clause, clause, offsetsOf, program, static, dynamic, atom, show, line, switch, demand, dead, entry, inner}
 use Rattle.indexing.proofs.Sample.{offset, deadClause, listing, constant, body, settings, plain, alike, fields, all}
-use Rattle.indexing.specs.Lines.{Index, modeOf, records}
+use Rattle.indexing.specs.Lines.{Choice, onDemand, Index, modeOf, records}
 use Rattle.indexing.specs.Build.{Program}
 use Rattle.indexing.specs.Expand.{expand, seed, build}
 use Rattle.indexing.specs.Builder.{Built, capacityOf, stored, indexOf, buildCall}
@@ -51,6 +51,12 @@ changing =
 abbrev opens : List Clause
 opens = clause 1 (atom 7 ∷ None ∷ []) ∷ clause 4 (atom 7 ∷ atom 1 ∷ []) ∷ clause 7 (atom 7 ∷ None ∷ []) ∷ []
 
+abbrev choice : ℕ → ℕ → Choice
+choice tag o = record { tag = tag; offset = o }
+
+abbrev same7 : List Clause
+same7 = clause 1 (atom 7 ∷ []) ∷ clause 4 (atom 7 ∷ []) ∷ []
+
 abbrev pair : List Clause
 pair = clause 1 (atom 1 ∷ atom 7 ∷ atom 5 ∷ []) ∷ clause 4 (atom 1 ∷ atom 7 ∷ atom 6 ∷ []) ∷ []
 
@@ -73,6 +79,14 @@ examples =
     ∷ built (dynamic 2) 1 (clause 1 (atom 7 ∷ ListKey ∷ []) ∷ []) ((1, 2) ∷ (2, 2) ∷ [])
     (line 1 0 ∷ switch 1 ∷ entry 1 0 7 (inner 2) ∷ entry 5 0 0 (inner 1) ∷ demand 2 ∷ offset 7 1 ∷ line 1 1 ∷ switch 2 ∷ entry 5 0 0 (inner 2)
     ∷ line 1 2 ∷ switch 2 ∷ entry 5 0 0 (inner 2) ∷ offset 7 1 ∷ line 1 3 ∷ line 1 4 ∷ offset 7 1 ∷ [])
+    -- at expansion a dynamic offset keeps its own tag, A or Z
+    ∷ record {
+      of = dynamic 1 same7;
+      index = record { tables = onDemand 1 ∷ []; choices = choice 6 1 ∷ choice 7 4 ∷ [] } ∷ [];
+      expanding = (0, 1) ∷ [];
+      expected =
+          line 1 0 ∷ switch 1 ∷ entry 1 0 7 (inner 2) ∷ entry 5 0 0 (inner 1) ∷ offset 6 1 ∷ offset 7 4 ∷ line 1 1 ∷ line 1 2 ∷ offset 6 1 ∷ offset 7 4 ∷ [];
+    }
     -- arguments 1 and 2 masked: c's own bit is not read
     ∷ built (program 2 false false false 3) 1 pair []
     (line 0 0 ∷ switch 1 ∷ entry 1 0 1 (inner 1) ∷ demand 3 ∷ offset 1 1 ∷ offset 4 4 ∷ line 0 1 ∷ demand 3 ∷ offset 1 1 ∷ offset 4 4 ∷ [])
@@ -137,9 +151,10 @@ gives r = answers r (buildCall classOf code (0 ∷ 3 ∷ 6 ∷ []) (r .given) (r
 
 abbrev calls : List Call
 calls =
-    -- room for 12 records and five odd bytes; a byte less than 12 records
+    -- room for 12 records and five odd bytes; a byte less than 12 records; no byte
     call (plain 2) 1 197 0 1 listing
     ∷ call (plain 2) 1 191 9 0 []
+    ∷ call (plain 2) 1 0 9 0 []
     -- mask bits of c and from the arity up are not read; skip
     ∷ call (settings 2 5 false false false true) 1 208 0 2 listing
     -- argument 2 masked

@@ -71,7 +71,7 @@ pub read-choices : (cs : List Choice) (w : Waiting) → readAll (map choiceRec c
 read-choices [] w = refl
 read-choices (c ∷ cs) w = ap (read 6 (choiceRec c)) (read-choices cs w)
 
--- nothing waits for a table
+-- the state with no entry and no dead clause
 abbrev pub from : List Table → List Choice → Index → Waiting
 from ts cs ls = waiting [] [] ts cs ls
 

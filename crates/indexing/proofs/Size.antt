@@ -4,7 +4,7 @@ use mathlib.Core.Path.{_≡_, refl, ap}
 use mathlib.Core.Bool.{Bool, true, false, cond}
 use mathlib.Core.List.{List, [], _∷_, _++_, map}
 use mathlib.Core.Option.{some}
-use Prim.Native.Nat.{ℕ, zero, suc, _+_, _<_, _-_}
+use Prim.Native.Nat.{ℕ, zero, suc, _+_, _≤_, _<_, _-_}
 use native.Mathlib.Omega.{arith}
 use lib.Dec.{eqb}
 use lib.ListN.{length, set, length-append, length-map}
@@ -36,6 +36,11 @@ length-records m n (l ∷ ls) = omega (
   length-tables (l .tables),
   length-records m (suc n) ls,
 )
+
+-- a line has a record
+pub lines-size : (idx : Index) → length idx ≤ size idx
+lines-size [] = omega arith
+lines-size (l ∷ ls) = omega (arith, lines-size ls)
 
 -- ---- how many records an expansion adds
 

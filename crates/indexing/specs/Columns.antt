@@ -1,5 +1,5 @@
 -- A line's clauses as columns, and the records of an expansion by them: what the writers' contracts cite.
--- proofs/Bridge shows that these are the records of section 4's expansion (specs/Expand). For contracts of inner functions.
+-- proofs/BridgeExpand, by the six other Bridge files, shows that these are the records of section 4's expansion (specs/Expand). For contracts of inner functions.
 -- Columns of a line of n clauses at one argument: leaders (the place of the first clause with an equal key), heads and bits (the
 -- key's sort and arity, and its bits), offs and tags (the line's choices), opens (32 numbers a clause: 1 at b - 1 where the clause
 -- has no key at argument b, else 0).

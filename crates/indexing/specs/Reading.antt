@@ -1,5 +1,5 @@
 -- The index that records stand for, the inverse of section 3's layout (document 01).
--- Reading goes from the last record to the first, and gathers what belongs to the record before.
+-- Reading goes from the last record to the first, and gathers what belongs to the table or line record in front.
 -- Assumes nothing.
 use mathlib.Core.Bool.{cond}
 use mathlib.Core.List.{List, [], _∷_}
@@ -22,7 +22,8 @@ pointerFrom w = cond (ltb w 0x8000_0000) (ext w) (int (w - 0x8000_0000))
 abbrev pub entryFrom : Rec → Entry Ptr
 entryFrom r = record { key = keyFrom (r .sub) (r .half) (r .long); to = pointerFrom (r .word) }
 
--- what is read and waits for the table or line record before it, and the lines that are read (section 3's order)
+-- the state of the reading: entries, dead clauses, tables and offsets whose table or line record is not read yet, and the complete lines
+-- (section 3's order)
 pub record Waiting : Type 0 where
   pub entries : List (Entry Ptr)
   pub deads : List ℕ
@@ -34,7 +35,7 @@ pub record Waiting : Type 0 where
 abbrev pub waiting : List (Entry Ptr) → List ℕ → List Table → List Choice → Index → Waiting
 waiting es ds ts cs ls = record { entries = es; deads = ds; tables = ts; choices = cs; lines = ls }
 
--- section 3: a record of kind k in front of what waits
+-- section 3: one more record, of kind k, is read
 abbrev pub read : ℕ → Rec → Waiting → Waiting
 read k r w =
     cond (eqb k 1) (waiting [] [] [] [] (record { tables = w .tables; choices = w .choices } ∷ w .lines))
@@ -45,7 +46,7 @@ read k r w =
     (cond (eqb k 6) (waiting (w .entries) (w .deads) (w .tables) (record { tag = r .sub; offset = r .word } ∷ w .choices) (w .lines))
     (waiting (w .entries) (r .word ∷ w .deads) (w .tables) (w .choices) (w .lines)))))))
 
--- section 3: all the records in front of what waits
+-- section 3: all the records are read, the last one first
 abbrev pub readAll : List Rec → Waiting → Waiting
 readAll [] w = w
 readAll (r ∷ rs) w = read (r .kind) r (readAll rs w)

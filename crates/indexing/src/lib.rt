@@ -1,2 +1,2 @@
-// The index: lines, tables and entries; the builder and the expansion of an on-demand table, number 9.
-// Port of scryer-prolog's indexing.rs, and of indices_of_arg of indexing_scan.rs.
+// The index in definitions and laws: lines, tables and entries, building and expansion, the records of an index and back. No code is here: it
+// is that of index_writer and indexing_builder, whose contracts cite these definitions.

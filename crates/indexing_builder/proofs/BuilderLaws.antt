@@ -58,7 +58,7 @@ capacity-many b n e h =
     let k : 65535 ≤ length b / 16 = omega (arith, length-recordsOf b) in
     sym (min-eq-right k)
 
-capacity-within : (b : List ℕ) → capacityOf b ≤ length (recordsOf b)
+pub capacity-within : (b : List ℕ) → capacityOf b ≤ length (recordsOf b)
 capacity-within b = omega (arith, length-recordsOf b, min-le-left (length b / 16) 65535)
 
 -- ---- answers

@@ -20,7 +20,8 @@ use Rattle.indexing_iter.specs.declared.Checked.the-variants.{Passed}
 use Rattle.indexing_iter.specs.Checks.{checkCode}
 use Rattle.indexing_iter.specs.Classes.{classOf}
 use Rattle.indexing_iter.specs.Clauses.{keyOf}
-use Rattle.indexing_iter.proofs.KeyLaws.{KeyInRange, key-of-range, code-ok}
+use Rattle.indexing_iter.proofs.SameKeys.{KeyInRange}
+use Rattle.indexing_iter.proofs.KeyLaws.{key-of-range, code-ok}
 use Rattle.indexing.specs.Lines.{onDemand, Index, lineAt, offs, find, records, modeOf, size}
 use Rattle.indexing.specs.Build.{programOf}
 use Rattle.indexing.specs.Expand.{expand}

@@ -99,6 +99,16 @@ fn expand_dead(index: &mut [u8], capacity: usize, n: usize, p: usize, zeros: &[u
     Expanded::Stored { count: size, lines }
 }
 
+// The distance of the first new line from line l, which has so many lines before it: a fresh one's, 1, grown by (lines before) - (own line) - 1.
+fn first_distance(l: u32, lines: u32) -> u32
+    requires { ⌜ (l < lines) × (lines ≤ 65535) ⌝ }
+    ensures { λ r. ⌜ r ≡ lines - l ⌝ }
+{
+    let fresh = records::pointer::internal(1);
+    let by = lines - l - 1;
+    records::pointer::distance(records::pointer::grown(fresh, by))
+}
+
 // The record at place p of n, in line l of lines, becomes the switch on argument a, where there is room for it and its lines.
 fn expand_switch(
     index: &mut [u8],
@@ -125,7 +135,7 @@ fn expand_switch(
     ensures { λ r. ⌜ Expands r (now (index .entry)) (now (index .exit)) p n (switchRecs (now (leaders .entry)) (now (heads .entry)) (now (bits .entry)) (now (offs .entry)) (settings .dynamic) a (lines - l)) (newLinesRecs (now (leaders .entry)) (now (heads .entry)) (now (opens .entry)) (now (offs .entry)) (now (tags .entry)) settings a lines) ⌝ }
 {
     let dynamic = settings.dynamic;
-    let d = lines - l;
+    let d = first_distance(l, lines);
     let k = buckets::switch_room(leaders, heads, bits, offs, dynamic, a as u16, d) - 1;
     let size = n + k + rooms::new_lines_room(leaders, heads, sizes, opens, settings, a);
     if capacity < size {

@@ -12,7 +12,7 @@ ghost use Prim.Native.Nat.{_+_, _-_, _*_, _≤_};
 ghost use lib.ListN.{length};
 ghost use Rattle.records.specs.Records.{recordsOf};
 ghost use Rattle.indexing_iter.specs.Classes.{classOf};
-ghost use Rattle.indexing_iter.specs.Checks.{numberOf, checkBuild};
+ghost use Rattle.indexing_iter.specs.Checks.{checkBuild};
 ghost use Rattle.indexing.specs.Columns.{sizesTo, switchRecs, newLinesRecs, seedRecs};
 ghost use Rattle.indexing.specs.Builder.{capacityOf, buildCall};
 ghost use Rattle.indexing_builder.specs.Answer.{builtOf};
@@ -40,15 +40,6 @@ fn variable_offset(skip: bool) -> u32
     ensures { λ r. ⌜ r ≡ cond skip 2 1 ⌝ }
 {
     if skip { 2 } else { 1 }
-}
-
-fn number_of(a: Checked) -> u32
-    ensures { λ r. ⌜ r ≡ numberOf a ⌝ }
-{
-    match a {
-        Checked::Passed => 0,
-        Checked::Refused(n) => n,
-    }
 }
 
 // Writes the built index where there is room for it: line 0 as it is before its switch on c is made, then that switch in place of its
@@ -193,7 +184,7 @@ pub fn compute_indices(code: &[u8], starts: &[u32], settings: Settings, c: u64, 
 {
     let checked = checks::check_build(code, starts, settings.arity, c);
     let Checked::Passed = checked else {
-        return BuildAnswer::Refused(number_of(checked));
+        return BuildAnswer::Refused(checks::number_of(checked));
     };
     build_checked(code, starts, settings, c as u32, index)
 }

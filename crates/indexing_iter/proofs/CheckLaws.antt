@@ -14,16 +14,12 @@ use borrow.Author.Tests.{leb-true, ltb-true, ltb-false, eqb-true, eqb-false, not
 use Rattle.records.specs.declared.Rec.{Rec}
 use Rattle.records.specs.Records.{recordsOf, none}
 use Rattle.records.proofs.Laws.{length-recordsOf}
-use Rattle.indexing_iter.specs.declared.OptArgIndexKey.{OptArgIndexKey}
-use Rattle.indexing_iter.specs.declared.OptArgIndexKey.the-variants.{None, Literal, Structure, List as ListKey}
-use Rattle.indexing_iter.specs.declared.InstructionArg.{InstructionArg}
-use Rattle.indexing_iter.specs.declared.InstructionArg.the-variants.{ArgedHead, ArglessHead, NonHead, Prologue}
 use Rattle.indexing_iter.specs.declared.Checked.{Checked}
 use Rattle.indexing_iter.specs.declared.Checked.the-variants.{Passed, Refused}
-use Rattle.indexing_iter.specs.Classes.{isKeyed, isShallowTemp, argOfClass, instructionArg}
-use Rattle.indexing_iter.specs.Keys.{keyStep, keyIn, isOpen}
+use Rattle.indexing_iter.specs.Classes.{instructionArg}
+use Rattle.indexing_iter.specs.Keys.{keyIn, isOpen}
 use Rattle.indexing_iter.specs.Clauses.{endOf, clausesOf, offsetsOf, clauseAt, keyOf, known}
-use Rattle.indexing_iter.specs.Checks.{risingBelow, isBody, hasBody, recordBad, registerBad, registerStep, checkRecords, orElse, refuse, checkArity, checkChosen, checkSize, checkStarts, checkClause, checkClauses, openSomewhere, checkKeyed, checkClausesOf, checkCode, checkBuild}
+use Rattle.indexing_iter.specs.Checks.{risingBelow, isBody, hasBody, recordBad, registerStep, checkRecords, orElse, refuse, checkArity, checkChosen, checkSize, checkStarts, checkClauses, openSomewhere, checkKeyed, checkClausesOf, checkCode, checkBuild}
 use Rattle.indexing_iter.proofs.Parts.{slice-step, slice-done}
 
 pub drop-step : (s : List ℕ) (i : ℕ) → i < length s → drop i s ≡ getD s i 0 ∷ drop (i + 1) s
@@ -159,33 +155,6 @@ by-known : {A : Type 0} (P : A → Type 0) (t k : Bool) (a b : A) → (t || k) �
 by-known P true k a b e p q = p
 by-known P false k a b e p q = q e
 
-with-body : (b : Bool) (a : Checked) → cond b a (Refused 5) ≡ Passed → (b ≡ true) × (a ≡ Passed)
-with-body true a e = (refl, e)
-with-body false a e = let z : _≡_ {A = ℕ} 0 1 = cc in absurd (omega arith)
-
--- a checked clause has a body record, and its records are as 6 and 7 want them
-pub clause-passed : (cls : ℕ → ℕ) (arity : ℕ) (rs : List Rec) → checkClause cls arity rs ≡ Passed
-    → (hasBody cls rs ≡ true) × (checkRecords cls arity rs 0 ≡ Passed)
-unfolding checkClause
-clause-passed cls arity rs e = with-body (hasBody cls rs) (checkRecords cls arity rs 0) e
-
-pub clauses-at : (cls : ℕ → ℕ) (arity : ℕ) (cs : List (List Rec)) (i : ℕ) → checkClauses cls arity cs ≡ Passed → i < length cs
-    → checkClause cls arity (getD cs i []) ≡ Passed
-unfolding checkClauses
-clauses-at cls arity [] i e h = absurd (not-suc-le-zero h)
-clauses-at cls arity (c ∷ cs) zero e h = passed-both (checkClause cls arity c) (checkClauses cls arity cs) e .0
-clauses-at cls arity (c ∷ cs) (suc i) e h =
-    clauses-at cls arity cs i (passed-both (checkClause cls arity c) (checkClauses cls arity cs) e .1) (le-of-suc-le-suc h)
-
-pub clauses-known : (cls : ℕ → ℕ) (arity : ℕ) (rs : List Rec) (s : List ℕ) (o : ℕ) → checkClauses cls arity (clausesOf rs s) ≡ Passed → known s o ≡ true
-    → checkClause cls arity (clauseAt rs s o) ≡ Passed
-unfolding checkClauses clausesOf clauseAt known
-clauses-known cls arity rs [] o e h = let z : _≡_ {A = ℕ} 0 1 = cc in absurd (omega arith)
-clauses-known cls arity rs (x ∷ s) o e h =
-    let c : List Rec = slice x (endOf (length rs) s) rs in
-    let t = passed-both (checkClause cls arity c) (checkClauses cls arity (clausesOf rs s)) e in
-    by-known (λ l. checkClause cls arity l ≡ Passed) (eqb (suc x) o) (known s o) c (clauseAt rs s o) h (t .0) (clauses-known cls arity rs s o (t .1))
-
 pub keyed-known : (cls : ℕ → ℕ) (rs : List Rec) (s : List ℕ) (o c : ℕ) → openSomewhere cls c (clausesOf rs s) ≡ false → known s o ≡ true
     → isOpen (keyOf cls rs s o c) ≡ false
 unfolding openSomewhere clausesOf clauseAt known keyOf
@@ -194,63 +163,6 @@ keyed-known cls rs (x ∷ s) o c e h =
     let l : List Rec = slice x (endOf (length rs) s) rs in
     let t = none-true (isOpen (keyIn cls l c)) (openSomewhere cls c (clausesOf rs s)) e in
     by-known (λ m. isOpen (keyIn cls m c) ≡ false) (eqb (suc x) o) (known s o) l (clauseAt rs s o) h (t .0) (keyed-known cls rs s o c (t .1))
-
--- ---- the keys of a checked clause
-
--- a key with its sort and arity in range
-abbrev pub keyOk : OptArgIndexKey → Bool
-keyOk None = false
-keyOk (Literal s b) = leb 1 s && leb s 3
-keyOk (Structure n f) = leb 1 n && leb n 255
-keyOk ListKey = true
-
-abbrev argOk : InstructionArg → Bool
-argOk NonHead = true
-argOk Prologue = true
-argOk ArglessHead = true
-argOk (ArgedHead reg key) = keyOk key
-
-arg-cases : (a b k z s c d : Bool) (w h l : ℕ)
-    → (k && (z || (s && not (cond c (leb 1 h && leb h 255) (cond d (leb 1 h && leb h 3) true))))) ≡ false
-    → argOk (cond a Prologue (cond b ArglessHead (cond k (cond s (ArgedHead w (cond c (Structure h l) (cond d (Literal h l) ListKey))) NonHead) NonHead))) ≡ true
-arg-cases true b k z s c d w h l e = refl
-arg-cases false true k z s c d w h l e = refl
-arg-cases false false false z s c d w h l e = refl
-arg-cases false false true true s c d w h l e = let z : _≡_ {A = ℕ} 0 1 = cc in absurd (omega arith)
-arg-cases false false true false false c d w h l e = refl
-arg-cases false false true false true true d w h l e = not-false _ e
-arg-cases false false true false true false true w h l e = not-false _ e
-arg-cases false false true false true false false w h l e = refl
-
-arg-ok : (class : ℕ) (r : Rec) → recordBad class r ≡ false → argOk (argOfClass class r) ≡ true
-unfolding recordBad argOfClass
-arg-ok class r e =
-    arg-cases (eqb class 1) (eqb class 2) (isKeyed class) (not (eqb (r .sub / 4) 0)) (isShallowTemp r) (eqb class 3) (eqb class 5) (r .word) (r .half) (r .long) e
-
-not-refused : (b : Bool) (n : ℕ) (a : Checked) → cond b (Refused n) a ≡ Passed → (b ≡ false) × (a ≡ Passed)
-not-refused true n a e = let z : _≡_ {A = ℕ} 0 1 = cc in absurd (omega arith)
-not-refused false n a e = (refl, e)
-
-key-step : (a : InstructionArg) (arity last j : ℕ) (rest : ℕ → Checked) (k : OptArgIndexKey) → argOk a ≡ true → registerStep a arity last rest ≡ Passed
-    → ((l : ℕ) → rest l ≡ Passed → isOpen k ≡ false → keyOk k ≡ true) → isOpen (keyStep a j k) ≡ false → keyOk (keyStep a j k) ≡ true
-key-step NonHead arity last j rest k o e f h = let z : _≡_ {A = ℕ} 0 1 = cc in absurd (omega arith)
-key-step Prologue arity last j rest k o e f h = f last e h
-key-step ArglessHead arity last j rest k o e f h = f last e h
-key-step (ArgedHead reg key) arity last j rest k o e f h = go (eqb reg j) h
-  where
-    go : (t : Bool) → isOpen (cond t key k) ≡ false → keyOk (cond t key k) ≡ true
-    go true q = o
-    go false q = f reg (not-refused (registerBad arity last reg) 7 (rest reg) e .1) q
-
--- a key that a checked clause gives is in range
-pub key-range : (cls : ℕ → ℕ) (arity : ℕ) (rs : List Rec) (last j : ℕ) → checkRecords cls arity rs last ≡ Passed → isOpen (keyIn cls rs j) ≡ false
-    → keyOk (keyIn cls rs j) ≡ true
-unfolding checkRecords keyIn
-key-range cls arity [] last j e h = let z : _≡_ {A = ℕ} 0 1 = cc in absurd (omega arith)
-key-range cls arity (r ∷ rs) last j e h =
-    let a : InstructionArg = instructionArg cls r in
-    let t = not-refused (recordBad (cls (r .kind)) r) 6 (registerStep a arity last (checkRecords cls arity rs)) e in
-    key-step a arity last j (checkRecords cls arity rs) (keyIn cls rs j) (arg-ok (cls (r .kind)) r (t .0)) (t .1) (λ l. key-range cls arity rs l j) h
 
 -- ---- the offsets
 
@@ -348,25 +260,6 @@ module _ (cls : ℕ → ℕ) (arity : ℕ) (code starts : List ℕ) where
 
   pub code-rising : checkCode cls arity code starts ≡ Passed → risingBelow (length (recordsOf code)) starts ≡ true
   code-rising e = clauses-of-rising (code-passed e .1)
-
-  pub code-clauses : checkCode cls arity code starts ≡ Passed → checkClauses cls arity (clausesOf (recordsOf code) starts) ≡ Passed
-  code-clauses e = clauses-of-passed (code-passed e .1) .2
-
-  -- the clause at a known offset
-  pub code-clause : (o : ℕ) → checkCode cls arity code starts ≡ Passed → known starts o ≡ true → checkClause cls arity (clauseAt (recordsOf code) starts o) ≡ Passed
-  code-clause o e h = clauses-known cls arity (recordsOf code) starts o (code-clauses e) h
-
-  pub code-body : (o : ℕ) → checkCode cls arity code starts ≡ Passed → known starts o ≡ true → hasBody cls (clauseAt (recordsOf code) starts o) ≡ true
-  code-body o e h = clause-passed cls arity (clauseAt (recordsOf code) starts o) (code-clause o e h) .0
-
-  pub code-records : (o : ℕ) → checkCode cls arity code starts ≡ Passed → known starts o ≡ true
-      → checkRecords cls arity (clauseAt (recordsOf code) starts o) 0 ≡ Passed
-  code-records o e h = clause-passed cls arity (clauseAt (recordsOf code) starts o) (code-clause o e h) .1
-
-  pub code-key : (o j : ℕ) → checkCode cls arity code starts ≡ Passed → known starts o ≡ true → isOpen (keyOf cls (recordsOf code) starts o j) ≡ false
-      → keyOk (keyOf cls (recordsOf code) starts o j) ≡ true
-  unfolding keyOf
-  code-key o j e h k = key-range cls arity (clauseAt (recordsOf code) starts o) 0 j (code-records o e h) k
 
   pub code-offset : (o : ℕ) → checkCode cls arity code starts ≡ Passed → known starts o ≡ true → (1 ≤ o) × (o ≤ length (recordsOf code))
   code-offset o e h = known-range (length (recordsOf code)) starts o (code-rising e) h

@@ -1,167 +1,30 @@
--- Laws of keys, and what a check that passed says of the code: where its clauses stand and which keys they have.
+-- What a check that passed says of the code: where its clauses stand and which keys they have.
 -- Every law that reads code holds for any class function. Assumes nothing.
-use mathlib.Core.Path.{_≡_, refl, sym, ap, ap₂, _∙_, subst}
-use Prim.Native.Nat.{ℕ, zero, suc, _+_, _-_, _*_, _/_, _%_, _≤_, _<_}
-use mathlib.Core.Bool.{Bool, true, false, cond, not, _&&_, _||_, false≢true, and-assoc}
+use mathlib.Core.Path.{_≡_, refl, sym, ap, _∙_, subst}
+use Prim.Native.Nat.{ℕ, zero, suc, _+_, _-_, _/_, _%_, _≤_, _<_}
+use mathlib.Core.Bool.{Bool, true, false, cond, not, _&&_, _||_, false≢true}
 use mathlib.Core.List.{List, [], _∷_, _++_, map}
 use native.Mathlib.Nat.{add-zero, not-suc-le-zero, le-of-suc-le-suc}
 use native.Mathlib.Omega.{arith}
 use lib.Dec.{eqb, leb, ltb}
 use lib.ListN.{length, getD, take, drop, length-map, take-append-drop, List·getD-append}
 use lib.Seq.{slice, length-take-le, take-length, drop-append-le}
-use borrow.Author.Tests.{eqb-true, eqb-false, eq-eqb, ne-eqb, leb-true, leb-false, ltb-true, ltb-false, not-false}
+use borrow.Author.Tests.{eqb-true, leb-true, leb-false, ltb-false, not-false}
 use Rattle.records.specs.declared.Rec.{Rec}
 use Rattle.records.specs.Records.{recordsOf}
 use Rattle.records.proofs.Laws.{length-recordsOf}
 use Rattle.indexing_iter.specs.declared.OptArgIndexKey.{OptArgIndexKey}
-use Rattle.indexing_iter.specs.declared.OptArgIndexKey.the-variants.{None, Literal, Structure, List as ListKey}
+use Rattle.indexing_iter.specs.declared.OptArgIndexKey.the-variants.{Literal, Structure, List as ListKey}
 use Rattle.indexing_iter.specs.declared.InstructionArg.{InstructionArg}
 use Rattle.indexing_iter.specs.declared.InstructionArg.the-variants.{ArgedHead, ArglessHead, NonHead, Prologue}
 use Rattle.indexing_iter.specs.declared.Checked.{Checked}
 use Rattle.indexing_iter.specs.declared.Checked.the-variants.{Passed, Refused}
 use Rattle.indexing_iter.specs.Classes.{instructionArg, argOfClass, keyOfClass, isKeyed, isShallowTemp}
-use Rattle.indexing_iter.specs.Keys.{same, sortOf, arityOf, bitsOf, groupOf, headOf, keyIn, keyStep, keysIn}
+use Rattle.indexing_iter.specs.Keys.{keyIn, keyStep, keysIn}
 use Rattle.indexing_iter.specs.Clauses.{endOf, clausesOf, clauseAt, keyOf, keysOf, known}
-use Rattle.indexing_iter.specs.Checks.{
-  orElse,
-  checkArity,
-  checkSize,
-  checkStarts,
-  risingBelow,
-  isBody,
-  hasBody,
-  keyFieldsOk,
-  recordBad,
-  registerBad,
-  registerStep,
-  checkRecords,
-  checkClause,
-  checkClauses,
-  checkClausesOf,
-  checkCode,
-}
-
--- ---- tests
-
-pub and-left : (a b : Bool) → (a && b) ≡ true → a ≡ true
-and-left true b e = refl
-and-left false b e = e
-
-pub and-right : (a b : Bool) → (a && b) ≡ true → b ≡ true
-and-right true b e = e
-and-right false b e = absurd (false≢true e)
-
-pub or-left : (a b : Bool) → (a || b) ≡ false → a ≡ false
-or-left true b e = e
-or-left false b e = refl
-
-pub or-right : (a b : Bool) → (a || b) ≡ false → b ≡ false
-or-right true b e = absurd (false≢true (sym e))
-or-right false b e = e
-
-eqb-comm : (a b : ℕ) → eqb a b ≡ eqb b a
-eqb-comm a b = go (eqb a b) refl
-  where
-    go : (t : Bool) → eqb a b ≡ t → eqb a b ≡ eqb b a
-    go true e = e ∙ sym (eq-eqb b a (sym (eqb-true a b e)))
-    go false e = e ∙ sym (ne-eqb b a (λ q. eqb-false a b e (sym q)))
-
--- ---- equal keys
-
--- keys that are the same are one key
-pub same-eq : (k l : OptArgIndexKey) → same k l ≡ true → k ≡ l
-same-eq None None e = refl
-same-eq None (Literal t c) e = absurd (false≢true e)
-same-eq None (Structure m g) e = absurd (false≢true e)
-same-eq None ListKey e = absurd (false≢true e)
-same-eq (Literal s b) None e = absurd (false≢true e)
-same-eq (Literal s b) (Literal t c) e =
-    ap₂ Literal (eqb-true s t (and-left (eqb s t) (eqb b c) e)) (eqb-true b c (and-right (eqb s t) (eqb b c) e))
-same-eq (Literal s b) (Structure m g) e = absurd (false≢true e)
-same-eq (Literal s b) ListKey e = absurd (false≢true e)
-same-eq (Structure n f) None e = absurd (false≢true e)
-same-eq (Structure n f) (Literal t c) e = absurd (false≢true e)
-same-eq (Structure n f) (Structure m g) e =
-    ap₂ Structure (eqb-true n m (and-left (eqb n m) (eqb f g) e)) (eqb-true f g (and-right (eqb n m) (eqb f g) e))
-same-eq (Structure n f) ListKey e = absurd (false≢true e)
-same-eq ListKey None e = absurd (false≢true e)
-same-eq ListKey (Literal t c) e = absurd (false≢true e)
-same-eq ListKey (Structure m g) e = absurd (false≢true e)
-same-eq ListKey ListKey e = refl
-
-pub same-refl : (k : OptArgIndexKey) → same k k ≡ true
-same-refl k =
-    rw (eq-eqb (groupOf k) (groupOf k) refl, eq-eqb (sortOf k) (sortOf k) refl, eq-eqb (arityOf k) (arityOf k) refl, eq-eqb (bitsOf k) (bitsOf k) refl) refl
-
-pub same-sym : (k l : OptArgIndexKey) → same k l ≡ same l k
-same-sym k l =
-    ap₂ _&&_ (eqb-comm (groupOf k) (groupOf l))
-    (ap₂ _&&_ (eqb-comm (sortOf k) (sortOf l)) (ap₂ _&&_ (eqb-comm (arityOf k) (arityOf l)) (eqb-comm (bitsOf k) (bitsOf l))))
-
-pub same-trans : (k l m : OptArgIndexKey) → same k l ≡ true → same l m ≡ true → same k m ≡ true
-same-trans k l m e f = subst (λ (x : OptArgIndexKey). same x m ≡ true) (sym (same-eq k l e)) f
-
--- a literal's sort is 1 to 3
-abbrev pub SortInRange : OptArgIndexKey → Type 0
-SortInRange None = Unit {0}
-SortInRange (Literal s b) = (1 ≤ s) × (s ≤ 3)
-SortInRange (Structure n f) = Unit {0}
-SortInRange ListKey = Unit {0}
-
--- a literal's sort is 1 to 3, a structure's arity 1 to 255
-abbrev pub KeyInRange : OptArgIndexKey → Type 0
-KeyInRange None = Unit {0}
-KeyInRange (Literal s b) = (1 ≤ s) × (s ≤ 3)
-KeyInRange (Structure n f) = (1 ≤ n) × (n ≤ 255)
-KeyInRange ListKey = Unit {0}
-
-pub sort-in-range : (k : OptArgIndexKey) → KeyInRange k → SortInRange k
-sort-in-range None h = tt
-sort-in-range (Literal s b) h = h
-sort-in-range (Structure n f) h = tt
-sort-in-range ListKey h = tt
-
--- then the group is told by the sort
-pub same-by-sort : (k l : OptArgIndexKey) → SortInRange k → SortInRange l
-    → same k l ≡ (eqb (sortOf k) (sortOf l) && (eqb (arityOf k) (arityOf l) && eqb (bitsOf k) (bitsOf l)))
-same-by-sort None None h i = refl
-same-by-sort None (Literal t c) h i = rw (ne-eqb 0 t (omega arith)) refl
-same-by-sort None (Structure m g) h i = refl
-same-by-sort None ListKey h i = refl
-same-by-sort (Literal s b) None h i = rw (ne-eqb s 0 (omega arith)) refl
-same-by-sort (Literal s b) (Literal t c) h i = refl
-same-by-sort (Literal s b) (Structure m g) h i = rw (ne-eqb s 4 (omega arith)) refl
-same-by-sort (Literal s b) ListKey h i = rw (ne-eqb s 5 (omega arith)) refl
-same-by-sort (Structure n f) None h i = refl
-same-by-sort (Structure n f) (Literal t c) h i = rw (ne-eqb 4 t (omega arith)) refl
-same-by-sort (Structure n f) (Structure m g) h i = refl
-same-by-sort (Structure n f) ListKey h i = refl
-same-by-sort ListKey None h i = refl
-same-by-sort ListKey (Literal t c) h i = rw (ne-eqb 5 t (omega arith)) refl
-same-by-sort ListKey (Structure m g) h i = refl
-same-by-sort ListKey ListKey h i = refl
-
-arity-small : (k : OptArgIndexKey) → KeyInRange k → arityOf k < 65536
-arity-small None h = omega arith
-arity-small (Literal s b) h = omega arith
-arity-small (Structure n f) h = omega arith
-arity-small ListKey h = omega arith
-
--- sort and arity in one number are equal if both are
-heads-eqb : (s a t b : ℕ) → a < 65536 → b < 65536 → eqb (s * 65536 + a) (t * 65536 + b) ≡ (eqb s t && eqb a b)
-heads-eqb s a t b h i = go (eqb s t) (eqb a b) refl refl
-  where
-    go : (x y : Bool) → eqb s t ≡ x → eqb a b ≡ y → eqb (s * 65536 + a) (t * 65536 + b) ≡ (x && y)
-    go true true e f = eq-eqb (s * 65536 + a) (t * 65536 + b) (omega (arith, eqb-true s t e, eqb-true a b f))
-    go true false e f = ne-eqb (s * 65536 + a) (t * 65536 + b) (λ q. eqb-false a b f (omega (arith, eqb-true s t e)))
-    go false y e f = ne-eqb (s * 65536 + a) (t * 65536 + b) (λ q. eqb-false s t e (omega arith))
-
--- in range, a key is told by its two numbers
-pub same-by-head : (k l : OptArgIndexKey) → KeyInRange k → KeyInRange l → same k l ≡ (eqb (headOf k) (headOf l) && eqb (bitsOf k) (bitsOf l))
-same-by-head k l h i =
-    same-by-sort k l (sort-in-range k h) (sort-in-range l i)
-    ∙ sym (and-assoc (eqb (sortOf k) (sortOf l)) (eqb (arityOf k) (arityOf l)) (eqb (bitsOf k) (bitsOf l)))
-    ∙ ap (λ (t : Bool). t && eqb (bitsOf k) (bitsOf l)) (sym (heads-eqb (sortOf k) (arityOf k) (sortOf l) (arityOf l) (arity-small k h) (arity-small l i)))
+use Rattle.indexing_iter.specs.Checks.{orElse, checkArity, checkSize, checkStarts, risingBelow, isBody, hasBody, keyFieldsOk, recordBad, registerBad, registerStep, checkRecords, checkClause, checkClauses, checkClausesOf, checkCode}
+use Rattle.indexing_iter.proofs.CheckLaws.{rising-tail, rising-head, end-below}
+use Rattle.indexing_iter.proofs.SameKeys.{and-left, and-right, or-left, or-right, KeyInRange}
 
 -- ---- the keys at n arguments, one by one
 
@@ -284,22 +147,6 @@ code-ok cls arity code starts e =
 
 -- ---- where a clause stands
 
-pub rising-tail : (n s : ℕ) (ss : List ℕ) → risingBelow n (s ∷ ss) ≡ true → risingBelow n ss ≡ true
-unfolding risingBelow
-rising-tail n s [] e = refl
-rising-tail n s (t ∷ ts) e = and-right (ltb s t) (risingBelow n (t ∷ ts)) e
-
--- a start is below the end of its clause
-pub rising-end : (n s : ℕ) (ss : List ℕ) → risingBelow n (s ∷ ss) ≡ true → s < endOf n ss
-unfolding risingBelow
-rising-end n s [] e = ltb-true s n e
-rising-end n s (t ∷ ts) e = ltb-true s t (and-left (ltb s t) (risingBelow n (t ∷ ts)) e)
-
--- and that end is within the code
-pub rising-within : (n : ℕ) (ss : List ℕ) → risingBelow n ss ≡ true → endOf n ss ≤ n
-rising-within n [] e = omega arith
-rising-within n (t ∷ ts) e = omega (arith, rising-end n t ts e, rising-within n ts (rising-tail n t ts e))
-
 -- the clause at offset o of the records rs: a run that starts at o - 1, has a body record, and passed 6 and 7
 pub record ClauseOk (cls : ℕ → ℕ) (arity : ℕ) (rs : List Rec) (o : ℕ) (clause : List Rec) : Type 0 where
   pub end : ℕ
@@ -320,8 +167,8 @@ module _ (cls : ℕ → ℕ) (arity : ℕ) (rs : List Rec) where
       record {
         end = endOf (length rs) ss;
         from = omega arith;
-        start = omega (arith, rising-end (length rs) s ss e);
-        within = rising-within (length rs) ss (rising-tail (length rs) s ss e);
+        start = omega (arith, rising-head (length rs) s ss e);
+        within = end-below (length rs) ss (rising-tail (length rs) s ss e);
         run = rw p refl;
         body = then-passed (hasBody cls c) 5 (checkRecords cls arity c 0) f .0;
         passed = then-passed (hasBody cls c) 5 (checkRecords cls arity c 0) f .1;

@@ -1,5 +1,6 @@
 pub mod CheckLaws
 pub mod FillLaws
+pub mod SameKeys
 pub mod KeyLaws
 pub mod Parts
 pub mod Table

@@ -57,7 +57,7 @@ isBody Prologue = false
 isBody ArglessHead = false
 isBody (ArgedHead reg key) = false
 
--- 5: some record is a body record
+-- whether some record is a body record; 5 applies where none is
 unfoldable pub hasBody : (ℕ → ℕ) → List Rec → Bool
 hasBody cls [] = false
 hasBody cls (r ∷ rs) = let rest = hasBody cls rs in isBody (instructionArg cls r) || rest

@@ -10,7 +10,17 @@ ghost use lib.Seq.{slice};
 ghost use Rattle.records.specs.Records.{recordsOf};
 ghost use Rattle.indexing_iter.specs.Classes.{classOf};
 ghost use Rattle.indexing_iter.specs.Clauses.{endOf, clausesOf};
-ghost use Rattle.indexing_iter.specs.Checks.{checkArity, checkChosen, checkSize, risingBelow, checkStarts, isBody, hasBody, keyFieldsOk, recordBad, registerBad, checkRecords, checkClause, checkClauses, openSomewhere, checkClausesOf, checkCode, checkBuild};
+ghost use Rattle.indexing_iter.specs.Checks.{numberOf, checkArity, checkChosen, checkSize, risingBelow, checkStarts, isBody, hasBody, keyFieldsOk, recordBad, registerBad, checkRecords, checkClause, checkClauses, openSomewhere, checkClausesOf, checkCode, checkBuild};
+
+// The number of a check's answer: 0 where it passed.
+pub fn number_of(a: Checked) -> u32
+    ensures { λ r. ⌜ r ≡ numberOf a ⌝ }
+{
+    match a {
+        Checked::Passed => 0,
+        Checked::Refused(n) => n,
+    }
+}
 
 // 1: arity outside 1..32.
 pub fn check_arity(arity: u32) -> Checked

@@ -1,8 +1,9 @@
 // The key reader: opcode classes, the keys of a clause, and the checks of code and starts, numbers 1 to 8.
-// Port of scryer-prolog's indexing_iter.rs: extract_index_arg, collect_opt_arg_index_keys.
+// Port of scryer-prolog's indexing_iter.rs: extract_index_arg, collect_opt_arg_index_keys, IndexedClauseView.
 use records::Rec;
 
 pub mod checks;
+pub mod clause_view;
 
 ghost use mathlib.Core.Path.{_≡_};
 ghost use mathlib.Core.Bool.{Bool, true};
@@ -230,16 +231,15 @@ pub fn key_in(code: &[u8], start: usize, end: usize, j: u32) -> OptArgIndexKey
     OptArgIndexKey::None
 }
 
-// The key at argument j of the clause at a known offset of checked code. A checked clause has a body record,
-// so reading from its start stops before the next clause.
+// The key at argument j of the clause at a known offset of checked code, read through a view of the clause. A checked
+// clause has a body record, so reading from its start stops before the next clause.
 pub fn key_of(code: &[u8], starts: &[u32], arity: u32, offset: u32, j: u32) -> OptArgIndexKey
     requires { ⌜ checkCode classOf arity (now code) (now starts) ≡ Checked.Passed ⌝ }
     requires { ⌜ known (now starts) offset ≡ true ⌝ }
     ensures { λ k. ⌜ k ≡ keyOf classOf (recordsOf (now (code .entry))) (now (starts .entry)) offset j ⌝ }
 {
     let start = (offset - 1) as usize;
-    let end = records::capacity(code);
-    key_in(code, start, end, j)
+    clause_view::key_at(code, start, j)
 }
 
 // Clears the first n numbers of both lists.

@@ -13,7 +13,8 @@ use borrow.Author.Tests.{eqb-true, not-false}
 use Rattle.records.specs.Records.{recordsOf}
 use Rattle.records.proofs.Laws.{length-recordsOf}
 use Rattle.indexing_iter.specs.declared.Checked.the-variants.{Passed}
-use Rattle.indexing_iter.proofs.KeyLaws.{and-left, not-refused}
+use Rattle.indexing_iter.proofs.SameKeys.{and-left}
+use Rattle.indexing_iter.proofs.KeyLaws.{not-refused}
 use Rattle.indexing.specs.Lists.{every}
 use Rattle.indexing_scan.specs.Calls.{argumentOk, checkCall}
 

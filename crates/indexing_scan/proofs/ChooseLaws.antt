@@ -16,17 +16,18 @@ use Rattle.records.specs.declared.Rec.{Rec}
 use Rattle.records.specs.Records.{none}
 use Rattle.records.specs.Pointer.{isInternal, distanceOf}
 use Rattle.indexing_iter.specs.declared.OptArgIndexKey.{OptArgIndexKey as Key}
-use Rattle.indexing_iter.specs.declared.OptArgIndexKey.the-variants.{None, Literal, Structure, List as ListKey}
 use Rattle.indexing_iter.specs.Keys.{groupOf, same}
 use Rattle.indexing.proofs.Lists.{All}
 use Rattle.indexing.proofs.Reading.{FitEntry, key-back, pointer-back}
 use Rattle.indexing.specs.Build.{Program}
 use Rattle.indexing.specs.Lines.{Ptr, ext, int, Entry, entryRec}
 use Rattle.indexing.specs.Lists.{add, keep}
-use Rattle.indexing.specs.Reading.{keyFrom, pointerFrom, entryFrom}
+use Rattle.indexing.specs.Reading.{pointerFrom, entryFrom}
+use Rattle.well_formed.proofs.PassParts.{group-sort}
+use Rattle.well_formed.specs.Pass.{groupBySort}
 use Rattle.indexing_scan.specs.Walk.{equal, marked, pick, choose}
 use Rattle.indexing_scan.specs.declared.stored.Chosen.the-variants.{Nothing, Only, Equal}
-use Rattle.indexing_scan.specs.Places.{upTo, countOf, groupOfSort, keyOfRec, inGroup, hasKey, equalRec, pickRec, chooseRec, choiceOf}
+use Rattle.indexing_scan.specs.Places.{upTo, countOf, keyOfRec, inGroup, hasKey, equalRec, pickRec, chooseRec, choiceOf}
 
 -- ---- what is counted and what is searched for
 
@@ -62,22 +63,12 @@ module _ (t : Rec → Bool) where
       go true e = omega arith
       go false e = e
 
--- the group of a key is that of its sort
-pub group-key : (s n b : ℕ) → groupOf (keyFrom s n b) ≡ groupOfSort s
-group-key s n b = go (eqb s 0) (eqb s 4) (eqb s 5)
-  where
-    go : (x y z : Bool) → groupOf (cond x None (cond y (Structure n b) (cond z ListKey (Literal s b)))) ≡ cond x 0 (cond y 3 (cond z 2 1))
-    go true y z = refl
-    go false true z = refl
-    go false false true = refl
-    go false false false = refl
-
 module _ (q : Key) where
   -- an equal key is of the same group
   equal-group : (r : Rec) → inGroup (groupOf q) r ≡ false → hasKey q r ≡ false
   unfolding inGroup hasKey
   equal-group r e =
-      let n : groupOf (keyOfRec r) ≡ groupOf q → ⊥ = λ z. eqb-false (groupOf q) (groupOfSort (r .sub)) e (sym z ∙ group-key (r .sub) (r .half) (r .long)) in
+      let n : groupOf (keyOfRec r) ≡ groupOf q → ⊥ = λ z. eqb-false (groupOf q) (groupBySort (r .sub)) e (sym z ∙ group-sort (r .sub) (r .half) (r .long)) in
       rw (ne-eqb (groupOf (keyOfRec r)) (groupOf q) n)
 
   equal-kept : (rs : List Rec) → equalRec q (keep (inGroup (groupOf q)) rs) ≡ equalRec q rs
@@ -176,7 +167,7 @@ entries-kept : (q : Key) (rs : List Rec) → keep (λ (e : Entry Ptr). eqb (grou
 unfolding inGroup
 entries-kept q [] = refl
 entries-kept q (r ∷ rs) =
-    rw (group-key (r .sub) (r .half) (r .long), entries-kept q rs) (go (eqb (groupOf q) (groupOfSort (r .sub))))
+    rw (group-sort (r .sub) (r .half) (r .long), entries-kept q rs) (go (eqb (groupOf q) (groupBySort (r .sub))))
   where
     go : (b : Bool) → add b (entryFrom r) (map entryFrom (keep (inGroup (groupOf q)) rs)) ≡ map entryFrom (add b r (keep (inGroup (groupOf q)) rs))
     go true = refl

@@ -4,6 +4,7 @@ use mathlib.Core.List.{List, [], _∷_}
 use Prim.Native.Nat.{ℕ, zero, suc, _≤_}
 use native.Mathlib.Nat.{le-refl}
 use native.Mathlib.Omega.{arith}
+use Rattle.indexing_iter.proofs.CheckLaws.{Rising}
 use Rattle.indexing.specs.Build.{Program}
 use Rattle.indexing.specs.Lines.{Index}
 use Rattle.indexing_scan.specs.Agree.{Call}
@@ -13,11 +14,6 @@ use Rattle.indexing_scan.specs.Walk.{Step, Place, Move, skip, stop, pass
 abbrev pub args : List Step → List ℕ
 args [] = []
 args (x ∷ xs) = x .arg ∷ args xs
-
--- strictly rising, from n on
-abbrev pub Rising : ℕ → List ℕ → Type 0
-Rising n [] = Unit {0}
-Rising n (x ∷ xs) = (n ≤ x) × Rising (suc x) xs
 
 pub rising-weaken : (m n : ℕ) (xs : List ℕ) → m ≤ n → Rising n xs → Rising m xs
 rising-weaken m n [] h r = tt

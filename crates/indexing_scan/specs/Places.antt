@@ -16,6 +16,7 @@ use Rattle.indexing_iter.specs.Keys.{groupOf, same}
 use Rattle.indexing.specs.Lists.{keep}
 use Rattle.indexing.specs.Lines.{Ptr, Table, switch, onDemand, dead, Index, lineAt, tablesRecs, choiceRec, records}
 use Rattle.indexing.specs.Reading.{keyFrom, pointerFrom}
+use Rattle.well_formed.specs.Pass.{groupBySort}
 use Rattle.indexing_scan.specs.Walk.{Chosen as WalkChosen}
 use Rattle.indexing_scan.specs.declared.stored.Run.{Run}
 use Rattle.indexing_scan.specs.declared.stored.Run.the-variants.{Items, Tables, Offsets}
@@ -98,17 +99,13 @@ pub record At (m : ℕ) (idx : Index) (rs : List Rec) (l : ℕ) (ts : List Table
 
 -- ---- the choice in a switch, over the records of its entries
 
--- section 3, the group of a sort: 1 literals, 2 list, 3 structures
-abbrev pub groupOfSort : ℕ → ℕ
-groupOfSort s = cond (eqb s 0) 0 (cond (eqb s 4) 3 (cond (eqb s 5) 2 1))
-
 -- section 3: the key of an entry's record
 abbrev pub keyOfRec : Rec → Key
 keyOfRec r = keyFrom (r .sub) (r .half) (r .long)
 
 -- an entry of group g
 unfoldable pub inGroup : ℕ → Rec → Bool
-inGroup g r = eqb g (groupOfSort (r .sub))
+inGroup g r = eqb g (groupBySort (r .sub))
 
 -- an entry whose key is equal to q
 unfoldable pub hasKey : Key → Rec → Bool

@@ -1,5 +1,5 @@
-// The walk and the witness, numbers 10 and 11: a layer above the key reader and the builder.
-// Port of scryer-prolog's indexing_scan.rs: switch_on_term and its loop.
+// The parts of a walk that read a stored index or work out a line that is not stored, the checks of a call, numbers 10 and 11, and the
+// witness. The loop of the walk is in indexing_walk, which has the expansion too.
 pub mod calls;
 pub mod stored;
 pub mod unstored;

@@ -9,7 +9,7 @@ ghost use Prim.Native.Nat.{_+_, _≤_, _<_};
 ghost use lib.ListN.{length, getD, take, drop};
 ghost use lib.Seq.{slice};
 ghost use Rattle.records.specs.Records.{recordsOf, none};
-ghost use Rattle.indexing_scan.specs.Places.{isItem, isTable, inRun, leaves, upTo, countOf, behindTable, behindLine, firstOffset, offsetsAt, wordsOf, groupOfSort, keyOfRec, inGroup, hasKey, chooseRec};
+ghost use Rattle.indexing_scan.specs.Places.{isItem, isTable, inRun, leaves, upTo, countOf, behindTable, behindLine, firstOffset, offsetsAt, wordsOf, inGroup, hasKey, chooseRec};
 
 // Runs of records: the entries or dead clauses of one table, tables with theirs, the offsets of a line.
 pub enum Run {
@@ -153,49 +153,16 @@ pub fn copy_offsets(index: &[u8], q: usize, k: usize, out: &mut [u32])
     }
 }
 
-// The group of a switch that a sort belongs to: 1 literals, 2 list, 3 structures, 0 none.
-fn group_of_sort(sub: u8) -> u8
-    ensures { λ g. ⌜ g ≡ groupOfSort sub ⌝ }
-{
-    if sub == 0 {
-        return 0;
-    }
-    if sub == 4 {
-        return 3;
-    }
-    if sub == 5 {
-        return 2;
-    }
-    1
-}
-
-// The key of an entry.
-fn entry_key(r: Rec) -> OptArgIndexKey
-    ensures { λ k. ⌜ k ≡ keyOfRec r ⌝ }
-{
-    let sub = r.sub;
-    if sub == 0 {
-        return OptArgIndexKey::None;
-    }
-    if sub == 4 {
-        return OptArgIndexKey::Structure(r.half, r.long);
-    }
-    if sub == 5 {
-        return OptArgIndexKey::List;
-    }
-    OptArgIndexKey::Literal(sub as u16, r.long)
-}
-
 fn in_group(r: Rec, g: u8) -> bool
     ensures { λ b. ⌜ b ≡ inGroup g r ⌝ }
 {
-    g == group_of_sort(r.sub)
+    g == well_formed::forms::group_by_sort(r.sub)
 }
 
 fn has_key(r: Rec, q: OptArgIndexKey) -> bool
     ensures { λ b. ⌜ b ≡ hasKey q r ⌝ }
 {
-    indexing_iter::same_key(entry_key(r), q)
+    indexing_iter::same_key(crate::calls::key_from(r.sub, r.half, r.long), q)
 }
 
 // How many of the entries from one place up to another are of group g.

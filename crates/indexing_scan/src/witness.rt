@@ -74,10 +74,7 @@ fn first_agreeing(code: &[u8], starts: &[u32], settings: Settings, call: &[u8]) 
 fn refusal_of(c: Checked) -> Witnessed
     ensures { λ r. ⌜ r ≡ Witnessed.Refused (numberOf c) ⌝ }
 {
-    match c {
-        Checked::Passed => Witnessed::Refused(0),
-        Checked::Refused(n) => Witnessed::Refused(n),
-    }
+    Witnessed::Refused(indexing_iter::checks::number_of(c))
 }
 
 // The offset of some clause that agrees with the call, 0 if there is none; refused with the first of 1, 3 to 7 and 10

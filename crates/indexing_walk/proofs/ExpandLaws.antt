@@ -1,9 +1,9 @@
 -- The expansion on the buffer as a turn of the walk: what is read of the line, and where the walk stands by the expansion's answer.
 -- Assumes nothing.
-use mathlib.Core.Path.{_≡_, refl, sym, ap, ap₂, _∙_, subst}
+use mathlib.Core.Path.{_≡_, refl, sym, ap, _∙_, subst}
 use mathlib.Core.Bool.{Bool, true, false, cond}
 use mathlib.Core.List.{List, [], _∷_, _++_, map}
-use Prim.Native.Nat.{ℕ, suc, _+_, _-_, _≤_, _<_}
+use Prim.Native.Nat.{ℕ, _+_, _-_, _≤_}
 use native.Mathlib.Omega.{arith}
 use lib.Dec.{leb}
 use lib.ListN.{length, getD, take, drop}
@@ -19,24 +19,22 @@ use Rattle.indexing_iter.specs.declared.Checked.the-variants.{Passed}
 use Rattle.indexing_iter.specs.Checks.{checkCode}
 use Rattle.indexing_iter.specs.Classes.{classOf}
 use Rattle.indexing_iter.specs.Clauses.{keyOf, known}
-use Rattle.indexing_iter.specs.Keys.{isOpen}
 use Rattle.indexing.proofs.BridgeLines.{tagsOf, tagged-own}
-use Rattle.indexing.proofs.Records.{before}
 use Rattle.indexing.specs.Builder.{capacityOf}
 use Rattle.indexing.specs.Expanding.{blockRecs, moreRecs, moreLines}
-use Rattle.indexing.specs.Lines.{onDemand, Choice, Index, lineAt, offs, size, modeOf, choiceRec, records}
+use Rattle.indexing.specs.Lines.{Choice, Index, lineAt, offs, size, modeOf, choiceRec, records}
 use Rattle.index_writer.specs.Choices.{wordsOf, subsOf, AllKnown}
 use Rattle.indexing_builder.specs.declared.expansion.Expanded.{Expanded}
 use Rattle.indexing_builder.specs.declared.expansion.Expanded.the-variants.{Stored, NoRoom}
 use Rattle.indexing_builder.specs.Expansion.{answerFor, Expands}
 use Rattle.indexing_builder.proofs.ExpansionLaws.{expansion-answer, expansion-stored}
-use Rattle.indexing_scan.proofs.PlaceLaws.{at-choices, at-table}
-use Rattle.indexing_scan.specs.Calls.{callOf}
+use Rattle.indexing_scan.proofs.ExpandedLaws.{at-table}
+use Rattle.indexing_scan.proofs.PlaceLaws.{at-choices}
 use Rattle.indexing_scan.specs.Places.{At, firstOffset, offsetsAt}
 use Rattle.indexing_walk.specs.declared.Walking.{Walking}
 use Rattle.indexing_walk.specs.Walking.{indexIn, offAt, grownAt, Stands, Went, WentBound}
-use Rattle.indexing_walk.proofs.StandLaws.{P, size-is, orderly}
-use Rattle.indexing_walk.proofs.LineLaws.{at-offs, offs-count, offs-within, known-line, every-at, few-line, length-offs}
+use Rattle.indexing_walk.proofs.StandLaws.{size-is, orderly}
+use Rattle.indexing_walk.proofs.LineLaws.{at-offs, offs-count, offs-within, known-line, every-at, few-line}
 use Rattle.indexing_walk.proofs.StoreLaws.{after, dem, range-arg, placed, went-stored, went-over}
 
 words-choices : (cs : List Choice) → wordsOf (map choiceRec cs) ≡ offs cs

@@ -1,77 +1,44 @@
 -- What holds of the line that a walk stands in, in checked code: its offsets are known and few, and its records fit.
 -- Assumes nothing.
-use mathlib.Core.Path.{_≡_, refl, sym, ap, ap₂, _∙_, subst}
-use mathlib.Core.Bool.{Bool, true, false, cond, not, _&&_, _||_}
+use mathlib.Core.Path.{_≡_, refl, ap, _∙_}
+use mathlib.Core.Bool.{Bool, true, cond, _&&_}
 use mathlib.Core.List.{List, [], _∷_, _++_, map}
-use mathlib.Core.Option.{Option, none as nothing, some}
-use Prim.Native.Nat.{ℕ, zero, suc, _+_, _-_, _≤_, _<_}
-use native.Mathlib.Nat.{zero-add, not-suc-le-zero}
+use mathlib.Core.Option.{some}
+use Prim.Native.Nat.{ℕ, zero, suc, _+_, _≤_, _<_}
+use native.Mathlib.Nat.{not-suc-le-zero}
 use native.Mathlib.Omega.{arith}
 use lib.Dec.{eqb, leb, ltb}
 use borrow.Author.Tests.{ne-eqb}
 use lib.ListN.{length, getD, take, drop, length-append, length-drop, length-map}
 use lib.Seq.{slice, length-take-le, take-at}
 use Rattle.records.specs.declared.Rec.{Rec}
-use Rattle.records.specs.Records.{recordsOf, none}
-use Rattle.indexing_iter.specs.declared.OptArgIndexKey.{OptArgIndexKey as Key}
-use Rattle.indexing_iter.specs.declared.OptArgIndexKey.the-variants.{None, Literal, Structure, List as ListKey}
+use Rattle.records.specs.Records.{recordsOf}
 use Rattle.indexing_iter.specs.declared.Settings.{Settings}
 use Rattle.indexing_iter.specs.declared.Checked.the-variants.{Passed}
 use Rattle.indexing_iter.specs.Checks.{checkCode}
 use Rattle.indexing_iter.specs.Classes.{classOf}
-use Rattle.indexing_iter.specs.Clauses.{known, offsetsOf, keyOf, clauseAt}
-use Rattle.indexing_iter.specs.Keys.{isOpen, keyIn}
+use Rattle.indexing_iter.specs.Clauses.{known}
 use Rattle.indexing_iter.proofs.CheckLaws.{code-offsets}
-use Rattle.indexing_iter.proofs.KeyLaws.{KeyInRange, CodeOk, code-ok, known-small, key-of-range}
+use Rattle.indexing_iter.proofs.KeyLaws.{CodeOk, code-ok, known-small}
+use Rattle.indexing.proofs.BridgeGroups.{length-offs}
 use Rattle.indexing.proofs.Lists.{All}
 use Rattle.indexing.proofs.Reading.{FitLine}
-use Rattle.indexing.proofs.Tests.{and-true, both, bool-absurd, or-false, le-true}
-use Rattle.indexing.specs.Build.{Program}
+use Rattle.indexing.proofs.Tests.{and-true, both}
 use Rattle.indexing.specs.Lists.{every}
-use Rattle.indexing.specs.Lines.{Table, Choice, Index, lineAt, offs, modeOf, choiceRec, records}
+use Rattle.indexing.specs.Lines.{Choice, Index, lineAt, offs, modeOf, choiceRec, records}
 use Rattle.well_formed.proofs.Sound.{fit-lines, index-good}
 use Rattle.well_formed.proofs.WellFormed.{lines-of}
-use Rattle.well_formed.specs.WellFormed.{risingOk, argsOk, tableOk, choicesOk, tagOk, someOk, linesOk, indexOk, keyOk}
+use Rattle.well_formed.specs.WellFormed.{risingOk, argsOk, tableOk, choicesOk, tagOk, someOk, linesOk}
 use Rattle.indexing_scan.proofs.PlaceLaws.{at-count, at-copied, at-offsets, place-within}
 use Rattle.indexing_scan.specs.Calls.{caseNumber}
 use Rattle.indexing_scan.specs.Places.{At, offsetsAt, firstOffset, wordsOf}
-use Rattle.indexing_scan.specs.Walk.{line, kindAt, Result}
+use Rattle.indexing_scan.specs.Walk.{line, kindAt}
 use Rattle.indexing_walk.specs.declared.Walking.{Walking}
 use Rattle.indexing_walk.specs.Walking.{indexIn, Stands}
 use Rattle.indexing_walk.proofs.FewLaws.{few-known}
 use Rattle.indexing_walk.proofs.StandLaws.{P, within}
 
--- ---- checked code
-
-no-clause : (rs : List Rec) (starts : List ℕ) (o : ℕ) → known starts o ≡ false → clauseAt rs starts o ≡ []
-unfolding known clauseAt
-no-clause rs [] o e = refl
-no-clause rs (s ∷ ss) o e = let x = or-false (eqb (suc s) o) (known ss o) e in rw (x .0) (no-clause rs ss o (x .1))
-
-range-ok : (k : Key) → KeyInRange k → isOpen k ≡ false → keyOk k ≡ true
-range-ok None r e = bool-absurd refl e
-range-ok (Literal s b) r e = both (le-true 1 s (r .0)) (le-true s 3 (r .1))
-range-ok (Structure n f) r e = refl
-range-ok ListKey r e = refl
-
-no-key : (cls : ℕ → ℕ) (rs : List Rec) (starts : List ℕ) (o a : ℕ) → known starts o ≡ false → isOpen (keyOf cls rs starts o a) ≡ true
-unfolding keyOf keyIn
-no-key cls rs starts o a k = rw (no-clause rs starts o k)
-
--- a bound key of checked code passes the test of a switch's keys
-pub code-keys : (cls : ℕ → ℕ) (arity : ℕ) (code starts : List ℕ) (o a : ℕ) → checkCode cls arity code starts ≡ Passed
-    → isOpen (keyOf cls (recordsOf code) starts o a) ≡ false → keyOk (keyOf cls (recordsOf code) starts o a) ≡ true
-code-keys cls arity code starts o a p e = go (known starts o) refl
-  where
-    go : (t : Bool) → known starts o ≡ t → keyOk (keyOf cls (recordsOf code) starts o a) ≡ true
-    go true k = range-ok (keyOf cls (recordsOf code) starts o a) (key-of-range cls arity code starts o a k p) e
-    go false k = bool-absurd (no-key cls (recordsOf code) starts o a k) e
-
 -- ---- offsets
-
-pub length-offs : (cs : List Choice) → length (offs cs) ≡ length cs
-length-offs [] = refl
-length-offs (c ∷ cs) = ap suc (length-offs cs)
 
 rising-known : (kn : ℕ → Bool) (n : ℕ) (os : List ℕ) → risingOk kn n os ≡ true → every kn os ≡ true
 rising-known kn n [] e = refl

@@ -17,6 +17,7 @@ use Rattle.indexing_iter.specs.declared.Checked.the-variants.{Passed}
 use Rattle.indexing_iter.specs.Checks.{checkCode}
 use Rattle.indexing_iter.specs.Classes.{classOf}
 use Rattle.indexing_iter.specs.Keys.{isOpen}
+use Rattle.indexing.proofs.BridgeGroups.{length-offs}
 use Rattle.indexing.specs.Build.{Program, openAt, virtual, lone}
 use Rattle.indexing.specs.Builder.{capacityOf}
 use Rattle.indexing.specs.Lines.{Table, onDemand, Index, lineAt, offs, modeOf}
@@ -37,7 +38,7 @@ use Rattle.indexing_walk.specs.Walking.{indexIn, movedTo, endedBy, Stand
 use Rattle.indexing_walk.proofs.WalkLaws.{move-is}
 use Rattle.indexing_walk.proofs.StandLaws.{P, state, left-first, at-count}
 use Rattle.indexing_walk.proofs.TurnLaws.{to-next, to-fail, to-out, to-new, to-end, turn-last}
-use Rattle.indexing_walk.proofs.LineLaws.{few-line, case-at, offs-count, offs-copied, length-offs}
+use Rattle.indexing_walk.proofs.LineLaws.{few-line, case-at, offs-count, offs-copied}
 
 -- a demand is never without a table
 skips : Move → ℕ

@@ -1,38 +1,37 @@
 -- The walk's start in a well-formed index, and its end as the walk's call gives it back.
 -- Assumes nothing.
 use mathlib.Core.Path.{_≡_, refl, sym, ap, ap₂, _∙_, subst}
-use mathlib.Core.Bool.{Bool, true, false, cond}
-use mathlib.Core.List.{List, [], _∷_, _++_}
-use Prim.Native.Nat.{ℕ, zero, suc, _+_, _-_, _*_, _≤_, _<_}
+use mathlib.Core.Bool.{true, cond}
+use mathlib.Core.List.{List, _++_}
+use Prim.Native.Nat.{ℕ, suc, _+_, _-_, _*_, _≤_, _<_}
 use native.Mathlib.Omega.{arith}
 use lib.ListN.{length, getD, take, drop, take-append-drop, set}
 use lib.Seq.{length-take-le, take-suc, drop-cons, append-snoc, set-at}
 use native.Mathlib.Numerals.{add-one}
 use Rattle.records.specs.declared.Rec.{Rec}
-use Rattle.records.specs.Records.{recordsOf, encode, Wrote}
+use Rattle.records.specs.Records.{recordsOf, encode}
 use Rattle.records.proofs.Whole.{Bytes, wrote-front}
 use Rattle.indexing_iter.specs.declared.Settings.{Settings}
 use Rattle.indexing_iter.specs.declared.Checked.the-variants.{Passed}
 use Rattle.indexing_iter.specs.Classes.{classOf}
 use Rattle.indexing_iter.specs.Clauses.{known}
-use Rattle.indexing.proofs.Size.{length-records}
+use Rattle.indexing.proofs.Size.{length-records, lines-size}
 use Rattle.indexing.specs.Build.{Program, programOf}
 use Rattle.indexing.specs.Builder.{capacityOf, stored}
 use Rattle.indexing.specs.Lines.{Index, lineAt, size, modeOf, records}
-use Rattle.indexing.specs.Reading.{parse}
-use Rattle.well_formed.proofs.Sound.{index-length}
+use Rattle.well_formed.proofs.Sound.{args-true, index-length}
 use Rattle.well_formed.proofs.WellFormed.{well-orderly, well-records, well-index}
 use Rattle.well_formed.specs.WellFormed.{indexOk, wellFormed}
-use Rattle.indexing_scan.proofs.PlaceLaws.{at-start}
-use Rattle.indexing_scan.specs.Calls.{callOf, Walked, walkedBy, resultOf, caseNumber}
+use Rattle.indexing_scan.proofs.ExpandedLaws.{at-start}
+use Rattle.indexing_scan.specs.Calls.{callOf, walkedBy, resultOf}
 use Rattle.indexing_scan.specs.Walk.{line, Result, walkFrom}
 use Rattle.indexing_walk.specs.declared.Ended.{Ended}
 use Rattle.indexing_walk.specs.declared.Walking.{Walking}
 use Rattle.indexing_walk.specs.Answers.{toldBy}
 use Rattle.indexing_walk.specs.Walking.{indexIn, Stands, Kept, Comes, restOf, Ends}
 use Rattle.indexing_walk.proofs.WalkLaws.{comes-start}
-use Rattle.indexing_walk.proofs.StandLaws.{args-true, capacity-within, capacity-small}
-use Rattle.indexing_walk.proofs.ReadyLaws.{lines-size}
+use Rattle.indexing_builder.proofs.BuilderLaws.{capacity-within}
+use Rattle.indexing_walk.proofs.StandLaws.{capacity-small}
 
 -- ---- a list copied
 

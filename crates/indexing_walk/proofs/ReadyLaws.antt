@@ -1,9 +1,9 @@
 -- The turns of a walk, as the code makes them: by the kind and the argument read, and the call's key there.
 -- Assumes nothing.
 use mathlib.Core.Path.{_≡_, refl, sym, ap, _∙_, subst}
-use mathlib.Core.Bool.{Bool, true, false, cond, _||_}
-use mathlib.Core.List.{List, [], _∷_}
-use Prim.Native.Nat.{ℕ, suc, _+_, _≤_, _<_}
+use mathlib.Core.Bool.{Bool, true, false, _||_}
+use mathlib.Core.List.{List}
+use Prim.Native.Nat.{ℕ, _+_, _≤_, _<_}
 use native.Mathlib.Omega.{arith}
 use lib.Dec.{eqb}
 use lib.ListN.{length, getD, take}
@@ -17,7 +17,7 @@ use Rattle.indexing_iter.specs.declared.Checked.the-variants.{Passed}
 use Rattle.indexing_iter.specs.Checks.{checkCode}
 use Rattle.indexing_iter.specs.Classes.{classOf}
 use Rattle.indexing_iter.specs.Keys.{isOpen}
-use Rattle.indexing.specs.Lines.{Index, size}
+use Rattle.indexing.proofs.Size.{lines-size}
 use Rattle.indexing_scan.specs.Calls.{callOf}
 use Rattle.indexing_scan.specs.Places.{isTable, behindTable, chooseRec}
 use Rattle.indexing_walk.specs.declared.Looked.{Looked}
@@ -26,11 +26,6 @@ use Rattle.indexing_walk.specs.Walking.{lookedBy, indexIn, movedTo, turn
 use Rattle.indexing_walk.proofs.StandLaws.{capacity-small, size-is, arg-range, at-count}
 use Rattle.indexing_walk.proofs.TurnLaws.{some-table, turn-open, turn-dead, turn-switch}
 use Rattle.indexing_walk.proofs.LineLaws.{fit, some-clause, arity-32}
-
--- an index has no more lines than records
-pub lines-size : (idx : Index) → length idx ≤ size idx
-lines-size [] = omega arith
-lines-size (l ∷ ls) = omega (arith, lines-size ls)
 
 -- the third kind of a table
 pub third-kind : (k : ℕ) → isTable k ≡ true → (k ≡ 4 → ⊥) → (k ≡ 2 → ⊥) → k ≡ 3

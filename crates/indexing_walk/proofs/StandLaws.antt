@@ -1,47 +1,34 @@
 -- A walk that stands in a buffer: what the record at its place tells, and where it stands after a turn.
 -- Assumes nothing.
-use mathlib.Core.Path.{_≡_, refl, sym, ap, ap₂, _∙_, subst}
-use mathlib.Core.Bool.{Bool, true, false, cond, not, _&&_}
-use mathlib.Core.List.{List, [], _∷_, _++_}
-use mathlib.Core.Option.{Option, none as nothing, some}
-use Prim.Native.Nat.{ℕ, zero, suc, _+_, _-_, _*_, _/_, _≤_, _<_, min}
-use native.Mathlib.Numerals.{add-one}
+use mathlib.Core.Path.{_≡_, refl, sym, ap, _∙_, subst}
+use mathlib.Core.Bool.{Bool, true, false, cond}
+use mathlib.Core.List.{List, _∷_}
+use Prim.Native.Nat.{ℕ, _+_, _≤_, _<_}
 use native.Mathlib.Omega.{arith}
-use lib.Dec.{eqb, leb}
+use lib.Dec.{eqb}
 use lib.ListN.{length, getD, take}
 use lib.Seq.{length-take-le}
-use Rattle.records.specs.declared.Rec.{Rec}
 use Rattle.records.specs.Records.{recordsOf, none}
-use Rattle.records.proofs.Laws.{length-recordsOf}
 use Rattle.indexing_iter.specs.declared.Settings.{Settings}
 use Rattle.indexing_iter.specs.Classes.{classOf}
 use Rattle.indexing_iter.specs.Clauses.{known}
-use Rattle.indexing_iter.specs.Keys.{isOpen}
-use Rattle.indexing.proofs.Order.{Args, Orderly}
+use Rattle.indexing.proofs.Order.{Orderly}
 use Rattle.indexing.proofs.Size.{length-records}
-use Rattle.indexing.proofs.Tests.{both, le-true}
 use Rattle.indexing.specs.Build.{Program, programOf}
 use Rattle.indexing.specs.Builder.{capacityOf}
-use Rattle.indexing.specs.Lines.{Table, switch, onDemand, dead, argOf, Index, lineAt, find, size, modeOf, records}
+use Rattle.indexing.specs.Lines.{Table, argOf, Index, size, modeOf}
+use Rattle.indexing_builder.proofs.BuilderLaws.{capacity-within}
+use Rattle.well_formed.proofs.Sound.{args-true}
 use Rattle.well_formed.proofs.WellFormed.{args-of, well-orderly}
-use Rattle.well_formed.specs.WellFormed.{argsOk}
 use Rattle.indexing_scan.proofs.Steps.{Left}
-use Rattle.indexing_scan.proofs.PlaceLaws.{at-skip, place-below}
+use Rattle.indexing_scan.proofs.PlaceLaws.{place-below}
 use Rattle.indexing_scan.specs.Calls.{callOf}
-use Rattle.indexing_scan.specs.Places.{At, behindTable}
-use Rattle.indexing_scan.specs.Walk.{line, Move, skip, stop, pass, out, goto, State, Result, move, settle}
+use Rattle.indexing_scan.specs.Places.{At}
+use Rattle.indexing_scan.specs.Walk.{line, Move, State, Result, move, settle}
 use Rattle.indexing_walk.specs.declared.Walking.{Walking}
-use Rattle.indexing_walk.specs.Walking.{indexIn, Stands, Kept, Comes, restOf, turnsLeft, Went}
-use Rattle.indexing_walk.proofs.WalkLaws.{rest, turns, left-next}
+use Rattle.indexing_walk.specs.Walking.{indexIn, Stands, Comes, restOf, turnsLeft, Went}
+use Rattle.indexing_walk.proofs.WalkLaws.{rest, turns}
 use Rattle.indexing_walk.proofs.WalkLaws as Laws
-
-pub args-true : (m n : ℕ) (ts : List Table) → Args m n ts → argsOk m n ts ≡ true
-args-true m n [] r = refl
-args-true m n (t ∷ ts) r = both (le-true n (argOf t) (r .0)) (both (le-true (argOf t) m (r .1)) (args-true m (suc (argOf t)) ts (r .2)))
-
--- the capacity is within the records
-pub capacity-within : (b : List ℕ) → capacityOf b ≤ length (recordsOf b)
-capacity-within b = omega (arith, length-recordsOf b)
 
 pub capacity-small : (b : List ℕ) → capacityOf b ≤ 65535
 capacity-small b = omega arith

@@ -2,19 +2,18 @@
 -- or it does not fit, and from here on nothing is stored.
 -- Assumes nothing.
 use mathlib.Core.Path.{_≡_, refl, sym, ap, ap₂, _∙_, subst}
-use mathlib.Core.Bool.{Bool, true, false, cond, not, _&&_}
+use mathlib.Core.Bool.{Bool, true, false, cond}
 use mathlib.Core.List.{List, [], _∷_, _++_}
 use mathlib.Core.Option.{some}
-use Prim.Native.Nat.{ℕ, zero, suc, _+_, _-_, _*_, _/_, _≤_, _<_, min}
+use Prim.Native.Nat.{ℕ, _+_, _-_, _*_, _/_, _≤_, _<_, min}
 use native.Mathlib.Omega.{arith}
 use lib.Dec.{eqb}
-use lib.ListN.{length, getD, take, drop, length-append}
+use lib.ListN.{length, getD, take, drop}
 use lib.Seq.{take-at, drop-append-add, drop-drop}
 use Rattle.records.specs.declared.Rec.{Rec}
-use Rattle.records.specs.Records.{recordsOf, none, encodeRec, encode, Wrote}
-use Rattle.records.proofs.Laws.{length-encodeRec, length-recordsOf}
+use Rattle.records.specs.Records.{recordsOf, none, encode, Wrote}
+use Rattle.records.proofs.Laws.{length-encode}
 use Rattle.records.proofs.Whole.{Bytes, wrote-front}
-use Rattle.indexing_iter.specs.declared.OptArgIndexKey.{OptArgIndexKey as Key}
 use Rattle.indexing_iter.specs.declared.Settings.{Settings}
 use Rattle.indexing_iter.specs.declared.Checked.the-variants.{Passed}
 use Rattle.indexing_iter.specs.Checks.{checkCode}
@@ -23,18 +22,19 @@ use Rattle.indexing_iter.specs.Clauses.{known}
 use Rattle.indexing_iter.specs.Keys.{isOpen}
 use Rattle.indexing_iter.proofs.KeyLaws.{known-small}
 use Rattle.indexing.proofs.Expand.{opens, outcome, new-table, length-expand, expanded-arg}
-use Rattle.indexing.proofs.Grown.{Grown, grown-same, grown-more, grown-size}
-use Rattle.indexing.proofs.Order.{Args, Orderly, orderly-expand}
+use Rattle.indexing.proofs.Grown.{grown-same, grown-more, grown-size}
 use Rattle.indexing.proofs.Size.{length-records}
 use Rattle.indexing.specs.Build.{Program}
 use Rattle.indexing.specs.Builder.{capacityOf, stored}
 use Rattle.indexing.specs.Expand.{expanded, expand}
 use Rattle.indexing.specs.Lines.{Table, onDemand, argOf, Index, lineAt, find, size, modeOf, records}
 use Rattle.indexing.specs.Reading.{parse}
-use Rattle.well_formed.proofs.Sound.{ok-parse, ok-expand}
+use Rattle.well_formed.proofs.CodeKeys.{code-keys}
+use Rattle.well_formed.proofs.Sound.{args-true, ok-parse, ok-expand}
 use Rattle.well_formed.proofs.WellFormed.{well-orderly}
-use Rattle.well_formed.specs.WellFormed.{indexOk, argsOk}
-use Rattle.indexing_scan.proofs.PlaceLaws.{at-demand, at-expanded, at-record, LeftDemand}
+use Rattle.well_formed.specs.WellFormed.{indexOk}
+use Rattle.indexing_scan.proofs.ExpandedLaws.{at-expanded}
+use Rattle.indexing_scan.proofs.PlaceLaws.{at-demand, at-record, LeftDemand}
 use Rattle.indexing_scan.proofs.Steps.{Left}
 use Rattle.indexing_scan.specs.Calls.{callOf}
 use Rattle.indexing_scan.specs.Places.{At, headRec}
@@ -42,13 +42,8 @@ use Rattle.indexing_scan.specs.Walk.{line, Result, walkFrom}
 use Rattle.indexing_walk.specs.declared.Walking.{Walking}
 use Rattle.indexing_walk.specs.Walking.{indexIn, Stands, Kept, Comes, restOf, turnsLeft, Went}
 use Rattle.indexing_walk.proofs.WalkLaws.{rest, found, at-left, expands, refuses, not-demand}
-use Rattle.indexing_walk.proofs.StandLaws.{P, args-true, within, size-is, orderly, left-first, place-first, arg-range, at-count, capacity-within}
-use Rattle.indexing_walk.proofs.LineLaws.{code-keys}
-
-length-encode : (rs : List Rec) → length (encode rs) ≡ 16 * length rs
-unfolding encode
-length-encode [] = refl
-length-encode (r ∷ rs) = omega (arith, length-append (encodeRec r) (encode rs), length-encodeRec r, length-encode rs)
+use Rattle.indexing_builder.proofs.BuilderLaws.{capacity-within}
+use Rattle.indexing_walk.proofs.StandLaws.{P, orderly, left-first, place-first, arg-range, at-count}
 
 -- an index stored over a smaller one
 pub stored-over : (d : Bool) (x y : Index) (b₀ b : List ℕ) → size x ≤ size y → b ≡ stored d x b₀ → stored d y b ≡ stored d y b₀

@@ -24,7 +24,8 @@ use Rattle.indexing.specs.Build.{Program, openAt}
 use Rattle.indexing.specs.Builder.{capacityOf}
 use Rattle.indexing.specs.Lines.{Ptr, ext, int, Entry, Table, switch, onDemand, dead, argOf, Index, lineAt, offs, find, size, modeOf}
 use Rattle.indexing_scan.proofs.ChooseLaws.{pointer-parts}
-use Rattle.indexing_scan.proofs.PlaceLaws.{at-skip, place-within, at-none, at-record, at-switch, at-demand, at-dead, at-last, at-line, at-chosen, at-fits, LeftSwitch, LeftDemand, LeftDead}
+use Rattle.indexing_scan.proofs.ExpandedLaws.{at-fits}
+use Rattle.indexing_scan.proofs.PlaceLaws.{at-skip, place-within, at-none, at-record, at-switch, at-demand, at-dead, at-last, at-line, at-chosen, LeftSwitch, LeftDemand, LeftDead}
 use Rattle.indexing_scan.proofs.Steps.{Left}
 use Rattle.indexing_scan.specs.Calls.{callOf, caseNumber}
 use Rattle.indexing_scan.specs.Places.{At, isTable, behindTable, behindLine, chooseRec, choiceOf, headRec}

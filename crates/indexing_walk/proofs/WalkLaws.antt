@@ -18,7 +18,7 @@ use Rattle.indexing.specs.Build.{Program, openAt}
 use Rattle.indexing.specs.Expand.{expanded, expand}
 use Rattle.indexing.specs.Lines.{Ptr, ext, int, Entry, Table, switch, onDemand, dead, argOf, Choice, Index, lineAt, offs, find, size}
 use Rattle.indexing_scan.proofs.Choose.{Ways, ways-none, ways-some, choose-linked}
-use Rattle.indexing_scan.proofs.PlaceLaws.{at-find, at-expanded}
+use Rattle.indexing_scan.proofs.ExpandedLaws.{at-find, at-expanded}
 use Rattle.indexing_scan.proofs.Steps.{Left, walk-to, walk-end}
 use Rattle.indexing_walk.specs.Walking.{Comes}
 use Rattle.indexing_scan.proofs.UnstoredWalk.{walk-new}

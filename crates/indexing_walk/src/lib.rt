@@ -1,33 +1,26 @@
-// The walk through a stored index, table by table, with expansion on demand.
+// The walk through a stored index, table by table, with expansion on demand: its loop and the public call.
+// Port of scryer-prolog's switch_on_term and its loop (indexing_scan.rs).
+mod store;
+mod turns;
+
 use indexing_iter::Checked;
-use indexing_iter::OptArgIndexKey;
 use indexing_iter::Settings;
-use indexing_builder::expansion::Expanded;
-use indexing_scan::stored::Chosen;
-use indexing_scan::unstored::Narrowed;
 
 ghost use mathlib.Core.Path.{_≡_};
-ghost use Prim.Native.Nat.{_+_, _≤_, _<_};
-ghost use lib.ListN.{length, take};
-ghost use lib.Seq.{slice};
+ghost use Prim.Native.Nat.{_≤_};
+ghost use lib.ListN.{length, take, drop};
 ghost use Rattle.records.specs.Records.{recordsOf};
-ghost use mathlib.Core.Bool.{cond};
 ghost use mathlib.Core.List.{_++_};
-ghost use lib.Dec.{eqb};
-ghost use lib.ListN.{drop, getD};
-ghost use mathlib.Core.Bool.{true, false};
-ghost use Rattle.records.specs.Records.{none};
+ghost use mathlib.Core.Bool.{true};
 ghost use Rattle.indexing_iter.specs.Classes.{classOf};
 ghost use Rattle.indexing_iter.specs.Checks.{numberOf, checkCode};
 ghost use Rattle.indexing_iter.specs.declared.Checked.the-variants.{Passed};
-ghost use Rattle.indexing_iter.specs.Keys.{isOpen};
 ghost use Rattle.indexing_iter.specs.Clauses.{known};
 ghost use Rattle.indexing.specs.Builder.{capacityOf};
 ghost use Rattle.well_formed.specs.WellFormed.{wellFormed};
-ghost use Rattle.indexing_scan.specs.Calls.{checkCall, checkOut, checkIndex, callOf, walkedBy, resultOf, walkCall};
+ghost use Rattle.indexing_scan.specs.Calls.{checkCall, checkIndex, walkedBy, resultOf, walkCall};
 ghost use Rattle.indexing_walk.specs.Answers.{toldBy, walkedOf};
-ghost use Rattle.indexing_scan.specs.Places.{isTable, behindTable, chooseRec, firstOffset, offsetsAt, wordsOf};
-ghost use Rattle.indexing_walk.specs.Walking.{followedBy, lookedBy, movedTo, endedBy, turnedBy, offAt, grownAt, ListedBy, Stands, WentBound, Turns, Walks};
+ghost use Rattle.indexing_walk.specs.Walking.{Stands, Walks};
 
 // What a switch leads to: nothing, a clause, or a line by its number and the place of its first table.
 pub enum Looked {
@@ -70,272 +63,6 @@ pub enum Turned {
     Done(Ended),
 }
 
-// Follows a pointer from place p in line l.
-fn follow(index: &[u8], n: usize, p: usize, l: u32, word: u32) -> Looked
-    requires { ⌜ (p ≤ n) × (n ≤ length (recordsOf (now index))) × (l ≤ 65535) ⌝ }
-    ensures { λ r. ⌜ r ≡ followedBy (take n (recordsOf (now (index .entry)))) p l word ⌝ }
-{
-    if records::pointer::is_internal(word) {
-        let d = records::pointer::distance(word);
-        return Looked::Enter(l + d, indexing_scan::stored::to_line(index, n, p, d));
-    }
-    Looked::External(word)
-}
-
-// The switch whose record is at place p of line l, looked at with the key q.
-pub fn look_switch(index: &[u8], n: usize, p: usize, l: u32, q: OptArgIndexKey) -> Looked
-    requires { ⌜ (p < n) × (n ≤ length (recordsOf (now index))) × (l ≤ 65535) ⌝ }
-    ensures { λ r. ⌜ (let R = recordsOf (now (index .entry)) in
-        r ≡ lookedBy (take n R) p l (chooseRec q (slice (p + 1) (behindTable (take n R) p) R))) ⌝ }
-{
-    let end = indexing_scan::stored::skip_items(index, n, p);
-    let c = indexing_scan::stored::choose_entry(index, p + 1, end, q);
-    match c {
-        Chosen::Nothing => Looked::Failed,
-        Chosen::Only(w) => follow(index, n, p, l, w),
-        Chosen::Equal(w) => follow(index, n, p, l, w),
-    }
-}
-
-// The walk at place p of line l, after one more table, which was for argument a.
-fn moved_to(w: Walking, l: u32, p: usize, a: u32) -> Walking
-    requires { ⌜ (w .tables ≤ 64) × (a ≤ 64) ⌝ }
-    ensures { λ r. ⌜ r ≡ movedTo w l p a ⌝ }
-{
-    Walking {
-        line: l,
-        at: p,
-        from: a + 1,
-        count: w.count,
-        lines: w.lines,
-        storing: w.storing,
-        tables: w.tables + 1,
-    }
-}
-
-// The walk ended in a case, with a line number and so many offsets, after some more tables.
-fn end_with(w: Walking, case: u32, line: u32, count: usize, more: u32) -> Ended
-    requires { ⌜ (w .tables ≤ 64) × (more ≤ 64) ⌝ }
-    ensures { λ r. ⌜ r ≡ endedBy w case line count more ⌝ }
-{
-    Ended {
-        case,
-        line,
-        count,
-        tables: w.tables + more,
-        whole: w.storing,
-        records: w.count,
-    }
-}
-
-// The turn at a switch for argument a, by what it leads to. An external pointer's offset is put at the front of the list.
-fn turn_by(w: Walking, a: u32, x: Looked, list: &mut [u32]) -> Turned
-    requires { ⌜ (w .tables ≤ 64) × (a ≤ 64) × (1 ≤ length (now list)) ⌝ }
-    ensures { λ r. ⌜ r ≡ turnedBy w a x ⌝ }
-    ensures { λ r. ⌜ ListedBy x (now (list .exit)) ⌝ }
-{
-    match x {
-        Looked::Failed => Turned::Done(end_with(w, 1, 0, 0, 1)),
-        Looked::External(o) => {
-            list[0] = o;
-            Turned::Done(end_with(w, 2, 0, 1, 1))
-        }
-        Looked::Enter(l, p) => Turned::On(moved_to(w, l, p, a)),
-    }
-}
-
-// No table is left: the offsets of the line are put at the front of the list.
-fn end_line(index: &[u8], w: Walking, list: &mut [u32]) -> Ended
-    requires { ⌜ (w .at ≤ w .count) × (w .count ≤ length (recordsOf (now index))) × (w .tables ≤ 64) ⌝ }
-    requires { ⌜ offsetsAt (take (w .count) (recordsOf (now index))) (w .at) ≤ length (now list) ⌝ }
-    ensures { λ r. ⌜ r ≡ endedBy w (cond (eqb (w .line) 0) 4 3) (w .line) (offsetsAt (take (w .count) (recordsOf (now (index .entry)))) (w .at)) 0 ⌝ }
-    ensures { λ r. ⌜ (let k = offsetsAt (take (w .count) (recordsOf (now (index .entry)))) (w .at) in
-        now (list .exit) ≡ wordsOf (slice (w .at) (w .at + k) (recordsOf (now (index .entry)))) ++ drop k (now (list .entry))) ⌝ }
-{
-    let k = indexing_scan::stored::count_offsets(index, w.count, w.at);
-    indexing_scan::stored::copy_offsets(index, w.at, k, list);
-    let line = w.line;
-    if line == 0 {
-        return end_with(w, 4, line, k, 0);
-    }
-    end_with(w, 3, line, k, 0)
-}
-
-// Reads the offsets of the walk's line to the front of the list, and gives their number.
-fn read_line(index: &[u8], n: usize, p: usize, list: &mut [u32]) -> usize
-    requires { ⌜ (p ≤ n) × (n ≤ length (recordsOf (now index))) ⌝ }
-    requires { ⌜ offsetsAt (take n (recordsOf (now index))) (firstOffset (take n (recordsOf (now index))) p) ≤ length (now list) ⌝ }
-    ensures { λ r. ⌜ (let q = firstOffset (take n (recordsOf (now (index .entry)))) p in
-        (r ≡ offsetsAt (take n (recordsOf (now (index .entry)))) q)
-        × (now (list .exit) ≡ wordsOf (slice q (q + r) (recordsOf (now (index .entry)))) ++ drop r (now (list .entry)))) ⌝ }
-{
-    let q = indexing_scan::stored::first_offset(index, n, p);
-    let k = indexing_scan::stored::count_offsets(index, n, q);
-    indexing_scan::stored::copy_offsets(index, q, k, list);
-    k
-}
-
-// The turn at an on-demand table for argument a, with the bound key q, where nothing is stored any more: the answer is worked out from the
-// clauses of the line.
-fn turn_unstored(
-    code: &[u8],
-    starts: &[u32],
-    settings: Settings,
-    call: &[u8],
-    index: &[u8],
-    w: Walking,
-    a: u32,
-    q: OptArgIndexKey,
-    list: &mut [u32],
-) -> Turned
-    requires { ⌜ checkCode classOf (settings .arity) (now code) (now starts) ≡ Passed ⌝ }
-    requires { ⌜ checkCall (settings .arity) (now call) ≡ Passed ⌝ }
-    requires { ⌜ Stands settings (now starts) (now index) w ⌝ }
-    requires { ⌜ (length (now list) ≡ 1024) × (w .storing ≡ false) × (w .tables ≤ 64) × (1 ≤ a) × (a ≤ settings .arity) × (settings .arity ≤ 32) ⌝ }
-    requires { ⌜ (getD (take (w .count) (recordsOf (now index))) (w .at) none .kind ≡ 3) × (a ≡ getD (take (w .count) (recordsOf (now index))) (w .at) none .half) ⌝ }
-    requires { ⌜ (q ≡ callOf (now call) a) × (isOpen q ≡ false) ⌝ }
-    ensures { λ r. ⌜ Turns (now (code .entry)) (now (starts .entry)) settings (now (call .entry)) (now (index .entry)) w (now (index .entry)) (now (list .exit)) r ⌝ }
-{
-    let m = read_line(index, w.count, w.at, list);
-    let x = indexing_scan::unstored::demand_at(code, starts, settings, list, m, a, q);
-    match x {
-        Narrowed::NoTable => Turned::On(w),
-        Narrowed::Passed(_) => Turned::On(moved_to(w, w.line, indexing_scan::stored::skip_items(index, w.count, w.at), a)),
-        Narrowed::Failed => Turned::Done(end_with(w, 1, 0, 0, 1)),
-        Narrowed::Single(_, _) => Turned::Done(end_with(w, 2, 0, 1, 1)),
-        Narrowed::Bucket(_, k) => {
-            let f = indexing_scan::unstored::finish(code, starts, settings, call, list, k, a + 1);
-            Turned::Done(end_with(w, f.case, 0, f.count, 1 + f.tables))
-        }
-    }
-}
-
-// To the next table: the one at the walk's place was for argument a.
-fn pass_table(index: &[u8], w: Walking, a: u32) -> Walking
-    requires { ⌜ (w .at < w .count) × (w .count ≤ length (recordsOf (now index))) × (w .tables ≤ 64) × (a ≤ 64) ⌝ }
-    ensures { λ r. ⌜ r ≡ movedTo w (w .line) (behindTable (take (w .count) (recordsOf (now (index .entry)))) (w .at)) a ⌝ }
-{
-    let p = indexing_scan::stored::skip_items(index, w.count, w.at);
-    moved_to(w, w.line, p, a)
-}
-
-// From here on nothing is stored.
-fn unstored_from(w: Walking) -> Walking
-    ensures { λ r. ⌜ r ≡ offAt w ⌝ }
-{
-    Walking {
-        line: w.line,
-        at: w.at,
-        from: w.from,
-        count: w.count,
-        lines: w.lines,
-        storing: false,
-        tables: w.tables,
-    }
-}
-
-// The walk at the same place of the expanded index, at the table for argument a.
-fn expanded_at(w: Walking, a: u32, count: usize, lines: u32) -> Walking
-    ensures { λ r. ⌜ r ≡ grownAt w a count lines ⌝ }
-{
-    Walking {
-        line: w.line,
-        at: w.at,
-        from: a,
-        count,
-        lines,
-        storing: w.storing,
-        tables: w.tables,
-    }
-}
-
-// The expansion with lists of the line's length, which start at place q: the walk looks again at its place, or stores nothing any more.
-fn store_line(code: &[u8], starts: &[u32], settings: Settings, index: &mut [u8], w: Walking, a: u32, q: usize, m: usize, list: &mut [u32], tags: &mut [u8]) -> Walking
-    requires { ⌜ checkCode classOf (settings .arity) (now code) (now starts) ≡ Passed ⌝ }
-    requires { ⌜ Stands settings (now starts) (now index) w ⌝ }
-    requires { ⌜ (length (now list) ≡ m) × (length (now tags) ≡ m) × (w .storing ≡ true) ⌝ }
-    requires { ⌜ (q ≡ firstOffset (take (w .count) (recordsOf (now index))) (w .at)) × (m ≡ offsetsAt (take (w .count) (recordsOf (now index))) q) ⌝ }
-    requires { ⌜ (getD (take (w .count) (recordsOf (now index))) (w .at) none .kind ≡ 3) × (a ≡ getD (take (w .count) (recordsOf (now index))) (w .at) none .half) ⌝ }
-    ensures { λ r. ⌜ WentBound (now (code .entry)) (now (starts .entry)) settings (now (index .entry)) w a (now (index .exit)) r ⌝ }
-{
-    index_writer::columns::read_choices(index, q, m, list, tags);
-    let capacity = indexing_builder::capacity(index);
-    let x = indexing_builder::expansion::indices_of_arg(code, starts, settings, index, capacity, w.count, w.at, w.line, w.lines, a, list, tags);
-    let Expanded::Stored { count, lines } = x else {
-        return unstored_from(w);
-    };
-    expanded_at(w, a, count, lines)
-}
-
-// The turn at an on-demand table for argument a while expansions are stored.
-fn turn_store(code: &[u8], starts: &[u32], settings: Settings, index: &mut [u8], w: Walking, a: u32, list: &mut [u32], tags: &mut [u8]) -> Walking
-    requires { ⌜ checkCode classOf (settings .arity) (now code) (now starts) ≡ Passed ⌝ }
-    requires { ⌜ Stands settings (now starts) (now index) w ⌝ }
-    requires { ⌜ (length (now list) ≡ 1024) × (length (now tags) ≡ 1024) × (w .storing ≡ true) ⌝ }
-    requires { ⌜ (getD (take (w .count) (recordsOf (now index))) (w .at) none .kind ≡ 3) × (a ≡ getD (take (w .count) (recordsOf (now index))) (w .at) none .half) ⌝ }
-    ensures { λ r. ⌜ WentBound (now (code .entry)) (now (starts .entry)) settings (now (index .entry)) w a (now (index .exit)) r ⌝ }
-{
-    let q = indexing_scan::stored::first_offset(index, w.count, w.at);
-    let m = indexing_scan::stored::count_offsets(index, w.count, q);
-    store_line(code, starts, settings, index, w, a, q, m, &mut list[..m], &mut tags[..m])
-}
-
-// The turn at a table of that kind for argument a, with the bound key q.
-fn turn_bound(
-    code: &[u8],
-    starts: &[u32],
-    settings: Settings,
-    call: &[u8],
-    index: &mut [u8],
-    w: Walking,
-    kind: u8,
-    a: u32,
-    q: OptArgIndexKey,
-    list: &mut [u32],
-    tags: &mut [u8],
-) -> Turned
-    requires { ⌜ checkCode classOf (settings .arity) (now code) (now starts) ≡ Passed ⌝ }
-    requires { ⌜ checkCall (settings .arity) (now call) ≡ Passed ⌝ }
-    requires { ⌜ Stands settings (now starts) (now index) w ⌝ }
-    requires { ⌜ (length (now list) ≡ 1024) × (length (now tags) ≡ 1024) ⌝ }
-    requires { ⌜ (kind ≡ getD (take (w .count) (recordsOf (now index))) (w .at) none .kind) × (a ≡ getD (take (w .count) (recordsOf (now index))) (w .at) none .half) ⌝ }
-    requires { ⌜ (isTable kind ≡ true) × (q ≡ callOf (now call) a) × (isOpen q ≡ false) ⌝ }
-    ensures { λ r. ⌜ Turns (now (code .entry)) (now (starts .entry)) settings (now (call .entry)) (now (index .entry)) w (now (index .exit)) (now (list .exit)) r ⌝ }
-{
-    if kind == 4 {
-        return Turned::On(pass_table(index, w, a));
-    }
-    if kind == 2 {
-        let x = look_switch(index, w.count, w.at, w.line, q);
-        return turn_by(w, a, x, list);
-    }
-    if w.storing {
-        return Turned::On(turn_store(code, starts, settings, index, w, a, list, tags));
-    }
-    turn_unstored(code, starts, settings, call, index, w, a, q, list)
-}
-
-// One turn of a walk.
-fn turn(code: &[u8], starts: &[u32], settings: Settings, call: &[u8], index: &mut [u8], w: Walking, list: &mut [u32], tags: &mut [u8]) -> Turned
-    requires { ⌜ checkCode classOf (settings .arity) (now code) (now starts) ≡ Passed ⌝ }
-    requires { ⌜ checkCall (settings .arity) (now call) ≡ Passed ⌝ }
-    requires { ⌜ Stands settings (now starts) (now index) w ⌝ }
-    requires { ⌜ (length (now list) ≡ 1024) × (length (now tags) ≡ 1024) ⌝ }
-    ensures { λ r. ⌜ Turns (now (code .entry)) (now (starts .entry)) settings (now (call .entry)) (now (index .entry)) w (now (index .exit)) (now (list .exit)) r ⌝ }
-{
-    let r = indexing_scan::stored::record_in(index, w.count, w.at);
-    let kind = r.kind;
-    if !indexing_scan::stored::is_table(kind) {
-        return Turned::Done(end_line(index, w, list));
-    }
-    let a = r.half as u32;
-    let q = indexing_scan::calls::call_key(call, a);
-    if indexing_iter::is_open(q) {
-        return Turned::On(pass_table(index, w, a));
-    }
-    turn_bound(code, starts, settings, call, index, w, kind, a, q, list, tags)
-}
-
 // The walk from where it stands: turns until it has ended. The answer's offsets are put at the front of the list.
 fn walk_lines(
     code: &[u8],
@@ -355,7 +82,7 @@ fn walk_lines(
 {
     let mut w = first;
     loop {
-        let t = turn(code, starts, settings, call, index, w, list, tags);
+        let t = turns::turn(code, starts, settings, call, index, w, list, tags);
         match t {
             Turned::On(v) => {
                 w = v;
@@ -448,10 +175,7 @@ fn check_index(code: &[u8], starts: &[u32], settings: Settings, index: &[u8], co
 fn refusal_of(c: Checked) -> WalkAnswer
     ensures { λ r. ⌜ r ≡ WalkAnswer.Refused (numberOf c) ⌝ }
 {
-    match c {
-        Checked::Passed => WalkAnswer::Refused(0),
-        Checked::Refused(n) => WalkAnswer::Refused(n),
-    }
+    WalkAnswer::Refused(indexing_iter::checks::number_of(c))
 }
 
 // The walk of a call through an index of count records: refused with the first of 1, 3 to 7, 10, 11 and 12 that applies; else the case, line

@@ -17,35 +17,37 @@ use lib.Dec.{eqb}
 use Rattle.inputs.specs.Input.{settingsFrom, settingsOf, chosenOf, startsIn, startsOf, codeOf, linesCall}
 use Rattle.inputs.proofs.StartLaws.{behind-most}
 
--- the part from the code's start on
-pub code-part : (input : List ℕ) (k at : ℕ) → at ≡ min (16 * (1 + k)) (length input) → take (length input - at) (drop at input) ≡ drop (16 * (1 + k)) input
-code-part input k at e =
+-- the part from place m on, or from the end where there is no such place
+pub code-part : (input : List ℕ) (m at : ℕ) → at ≡ min m (length input) → take (length input - at) (drop at input) ≡ drop m input
+code-part input m at e =
     let l : length (drop at input) ≤ length input - at = omega (arith, length-drop at input) in
-    take-all (length input - at) (drop at input) l ∙ go (decLe (16 * (1 + k)) (length input))
+    take-all (length input - at) (drop at input) l ∙ go (decLe m (length input))
   where
-    go : Dec (16 * (1 + k) ≤ length input) → drop at input ≡ drop (16 * (1 + k)) input
-    go (yes h) = let q : at ≡ 16 * (1 + k) = omega arith in ap (λ (n : ℕ). drop n input) q
+    go : Dec (m ≤ length input) → drop at input ≡ drop m input
+    go (yes h) = let q : at ≡ m = omega arith in ap (λ (n : ℕ). drop n input) q
     go (no h) =
         let u : length input ≤ at = omega arith in
-        let v : length input ≤ 16 * (1 + k) = omega arith in
+        let v : length input ≤ m = omega arith in
         drop-of-length-le input u ∙ sym (drop-of-length-le input v)
 
 -- the starts fit their scratch space
 pub starts-small : (input : List ℕ) (k : ℕ) → length input ≤ 65536 → k ≡ length (startsIn (drop 1 (recordsOf input))) → k ≤ 4096
 starts-small input k h e = omega (arith, behind-most (recordsOf input), length-recordsOf input)
 
-module _ (input buffer code starts : List ℕ) (S : Settings) (r : Rec) (f : r ≡ getD (recordsOf input) 0 none) (g : S ≡ settingsFrom (eqb (r .kind) 240) r) where
-  settings-as : S ≡ settingsOf input
+module _ (input : List ℕ) (r : Rec) (f : r ≡ getD (recordsOf input) 0 none) where
+  -- the settings and the chosen argument, read from the first record
+  pub settings-as : (S : Settings) → S ≡ settingsFrom (eqb (r .kind) 240) r → S ≡ settingsOf input
   unfolding settingsOf
-  settings-as = g ∙ ap (λ (x : Rec). settingsFrom (eqb (x .kind) 240) x) f
+  settings-as S g = g ∙ ap (λ (x : Rec). settingsFrom (eqb (x .kind) 240) x) f
 
-  chosen-as : r .long ≡ chosenOf input
+  pub chosen-as : r .long ≡ chosenOf input
   unfolding chosenOf
   chosen-as = ap (λ (x : Rec). x .long) f
 
+module _ (input buffer code starts : List ℕ) (S : Settings) (r : Rec) (f : r ≡ getD (recordsOf input) 0 none) (g : S ≡ settingsFrom (eqb (r .kind) 240) r) where
   call-as : code ≡ codeOf input → starts ≡ startsOf input → buildCall classOf code starts S (r .long) buffer ≡ linesCall input buffer
   unfolding linesCall
-  call-as c s = rw (c, s, settings-as, chosen-as) refl
+  call-as c s = rw (c, s, settings-as input r f S g, chosen-as input r f) refl
 
   -- the call of an input that is not too long
   pub lines-short : (k at : ℕ) → length input ≤ 65536 → starts ≡ startsIn (drop 1 (recordsOf input)) → k ≡ length (startsIn (drop 1 (recordsOf input)))
@@ -55,7 +57,7 @@ module _ (input buffer code starts : List ℕ) (S : Settings) (r : Rec) (f : r �
   lines-short k at h s q e c =
       let t = le-ltb 65536 (length input) h in
       call-as
-      (c ∙ code-part input k at e ∙ rw (t, q) refl)
+      (c ∙ code-part input (16 * (1 + k)) at e ∙ rw (t, q) refl)
       (s ∙ rw t refl)
 
   -- the call of a longer one

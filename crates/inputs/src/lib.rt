@@ -11,7 +11,7 @@ ghost use Rattle.indexing_builder.specs.Answer.{builtOf};
 ghost use Rattle.inputs.specs.Input.{bit as bitOf, settingsFrom, startsIn, linesCall};
 
 // The bit of sub whose value is k.
-fn bit(sub: u8, k: u8) -> bool
+pub fn bit(sub: u8, k: u8) -> bool
     requires { ⌜ 0 < k ⌝ }
     ensures { λ r. ⌜ r ≡ bitOf sub k ⌝ }
 {
@@ -19,7 +19,7 @@ fn bit(sub: u8, k: u8) -> bool
 }
 
 // The settings in the first record of an input; any other kind counts as arity 0.
-fn settings_in(r: Rec) -> Settings
+pub fn settings_in(r: Rec) -> Settings
     ensures { λ s. ⌜ s ≡ settingsFrom (eqb (r .kind) 240) r ⌝ }
 {
     let sub = r.sub;
@@ -46,7 +46,7 @@ fn settings_in(r: Rec) -> Settings
 }
 
 // The first record of an input, all zero where there is none.
-fn first_record(input: &[u8]) -> Rec
+pub fn first_record(input: &[u8]) -> Rec
     ensures { λ r. ⌜ r ≡ getD (recordsOf (now (input .entry))) 0 none ⌝ }
 {
     if records::capacity(input) < 1 {
@@ -62,7 +62,7 @@ fn first_record(input: &[u8]) -> Rec
 }
 
 // How many starts follow the first record.
-fn count_starts(input: &[u8]) -> usize
+pub fn count_starts(input: &[u8]) -> usize
     ensures { λ r. ⌜ r ≡ length (startsIn (drop 1 (recordsOf (now (input .entry))))) ⌝ }
 {
     let n = records::capacity(input);
@@ -78,7 +78,7 @@ fn count_starts(input: &[u8]) -> usize
 }
 
 // Reads the starts that follow the first record.
-fn read_starts(input: &[u8], starts: &mut [u32])
+pub fn read_starts(input: &[u8], starts: &mut [u32])
     requires { ⌜ length (now starts) ≡ length (startsIn (drop 1 (recordsOf (now input)))) ⌝ }
     ensures { λ _. ⌜ now (starts .exit) ≡ startsIn (drop 1 (recordsOf (now (input .entry)))) ⌝ }
 {

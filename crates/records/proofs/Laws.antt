@@ -8,7 +8,7 @@ use lib.ListN.{length, getD, take, drop, set, length-append, length-drop, take-a
 use lib.Seq.{length-take-le, take-append-le, drop-append-le, drop-append-add, drop-drop, take-at, drop-at, getD-drop, set-split, take-all}
 use Rattle.records.specs.Bytes.{le16, le32, le64, bytes16, bytes32, bytes64}
 use Rattle.records.specs.declared.Rec.{Rec}
-use Rattle.records.specs.Records.{decode, encodeRec, recs, recordsOf, oddOf, none, Wrote}
+use Rattle.records.specs.Records.{decode, encodeRec, encode, recs, recordsOf, oddOf, none, Wrote}
 
 pub length-recs : (n : ℕ) (b : List ℕ) → length (recs n b) ≡ n
 unfolding recs
@@ -113,6 +113,11 @@ decode-encode r h w l =
 pub length-encodeRec : (r : Rec) → length (encodeRec r) ≡ 16
 unfolding encodeRec
 length-encodeRec r = refl
+
+pub length-encode : (rs : List Rec) → length (encode rs) ≡ 16 * length rs
+unfolding encode
+length-encode [] = refl
+length-encode (r ∷ rs) = omega (arith, length-append (encodeRec r) (encode rs), length-encodeRec r, length-encode rs)
 
 pub take-encodeRec : (r : Rec) → take 16 (encodeRec r) ≡ encodeRec r
 unfolding encodeRec

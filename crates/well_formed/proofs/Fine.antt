@@ -45,7 +45,7 @@ both-lower a m n h k = go (ltb m n)
     go false = k
 
 module _ (arity : ℕ) (dynamic : Bool) (known : ℕ → Bool) where
-  -- a table, a line, the lines from one on: the argument of a switch is below what its pointers reach
+  -- a table, a line, the lines from one on: the argument of a switch is below the bounds of its pointers
   abbrev pub FineTable : Index → Table → Type 0
   FineTable ls (switch a es) = (keysOk 1 (entryKeys es) ≡ true) × (a < least dynamic known ls es)
   FineTable ls (onDemand a) = Unit {0}

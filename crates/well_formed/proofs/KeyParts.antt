@@ -74,6 +74,6 @@ unfolding distinctKeys
 once-fields [] f = refl
 once-fields (q ∷ qs) f = ap₂ (λ (x y : Bool). not x && y) (any-among q qs (f .0) (f .1)) (once-fields qs (f .1))
 
--- the keys that wait are those of the records in front
+-- the keys of the entries with no switch yet are those of the records in front
 pub once-behind : (es : List (Entry Ptr)) (rs : List Rec) → Behind es rs → once (entryKeys es) ≡ distinctKeys (take (length es) rs)
 once-behind es rs b = ap (λ (xs : List (Entry Ptr)). once (entryKeys xs)) (b .0) ∙ once-fields (take (length es) rs) (b .1)

@@ -13,3 +13,5 @@ pub mod KeyParts
 pub mod PassCode
 pub mod Marking
 pub mod Formed
+pub mod CodeKeys
+pub mod ChainLaws

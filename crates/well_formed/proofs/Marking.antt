@@ -40,7 +40,7 @@ lines-more R count i j n r next low high here e =
 
 -- ---- offsets
 
-getD-zeros : (n o : ℕ) → _≡_ {A = ℕ} (getD (replicate n 0) o 0) 0
+pub getD-zeros : (n o : ℕ) → _≡_ {A = ℕ} (getD (replicate n 0) o 0) 0
 getD-zeros zero o = refl
 getD-zeros (suc n) zero = refl
 getD-zeros (suc n) (suc o) = getD-zeros n o

@@ -1,4 +1,4 @@
--- The pass as the code makes it: what it keeps is that which waits, and each turn reads one record more.
+-- The pass as the code makes it: its state is that of the reading, and each turn reads one record more.
 -- Assumes nothing.
 use mathlib.Core.Path.{_≡_, refl, sym, _∙_, ap}
 use mathlib.Core.Bool.{Bool, true, false, cond, _&&_}
@@ -70,7 +70,7 @@ reach-noted dynamic known firsts ls (int (suc d)) n =
     go false e = let h : length ls < suc d = omega (arith, ltb-false d (length ls) e) in rw (lt-ltb (length ls) (suc d) h)
 
 module _ (arity : ℕ) (dynamic : Bool) (known : ℕ → Bool) (total : ℕ) where
-  -- the records rs have passed; s and firsts are what the code keeps of what waits
+  -- the records rs have passed; s and firsts are what the code keeps of the reading
   pub record Met (rs : List Rec) (s : Waits) (firsts : List ℕ) : Type 0 where
     pub passed : pass arity dynamic known total nothing rs ≡ true
     pub state : s ≡ waits dynamic known (readAll rs nothing)

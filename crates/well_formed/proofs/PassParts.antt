@@ -1,4 +1,4 @@
--- What the tests of the pass tell of one record, and of what waits behind it.
+-- What the tests of the pass tell of one record, and of those behind it.
 -- Assumes nothing.
 use mathlib.Core.Path.{_≡_, refl, sym}
 use mathlib.Core.Bool.{Bool, true, false, cond, not, _&&_, _||_}
@@ -81,7 +81,7 @@ entry-back r k e =
     let f = form-key (r .sub) (r .half) (r .long) e in
     rec-is r 5 _ _ _ _ k (sym (f .1)) (sym (f .2)) (sym (word-back (r .word))) (sym (f .3))
 
--- ---- the first of what waits
+-- ---- the first entry, dead clause, table and offset of the state
 
 pub no-items : {A : Type 0} (xs : List A) → eqb (length xs) 0 ≡ true → xs ≡ []
 no-items [] e = refl

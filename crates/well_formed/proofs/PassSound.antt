@@ -1,4 +1,4 @@
--- Records that pass are those of what waits, and that is sound.
+-- Records that pass are those of the state that is read from them, and that state is sound.
 -- Assumes nothing.
 use mathlib.Core.Path.{_≡_, refl, sym, _∙_, ap₂}
 use mathlib.Core.Bool.{Bool, true, false, cond, not, _&&_, _||_}
@@ -24,13 +24,13 @@ use Rattle.well_formed.proofs.Fine.{args-above, FineTable, Fine}
 use Rattle.well_formed.proofs.PassParts.{and3, and5, and6, and7, rec-is, group-sort, form-key, entry-back, no-items, no-offsets, no-tables}
 use Rattle.well_formed.proofs.PassParts.{rises-front, groupsOk, groups-keys, groups-front, key-group}
 
--- the records of what waits, its lines numbered from m on
+-- the records of a state, its lines numbered from m on
 abbrev pub flat : Bool → ℕ → Waiting → List Rec
 flat dynamic m w =
     map entryRec (w .entries) ++ (map deadRec (w .deads) ++ (tablesRecs (w .tables) ++ (map choiceRec (w .choices) ++ records (modeOf dynamic) m (w .lines))))
 
 module _ (arity : ℕ) (dynamic : Bool) (known : ℕ → Bool) (total : ℕ) where
-  -- the records are those of what waits, and what waits is sound by itself
+  -- the records are those of the state, and the state is sound by itself
   pub record Sound (rs : List Rec) (w : Waiting) : Type 0 where
     pub same : (m : ℕ) → m + length (w .lines) ≡ total → rs ≡ flat dynamic m w
     pub keys : groupsOk 1 (entryKeys (w .entries)) ≡ true
@@ -71,7 +71,7 @@ module _ (arity : ℕ) (dynamic : Bool) (known : ℕ → Bool) (total : ℕ) whe
         some-one false [] e = e
         some-one false (c ∷ cs) e = refl
 
-    -- a table's record: it is one, and its argument may stand in front of the tables that wait
+    -- a table's record: it is one, and its argument may stand in front of the tables read
     table-told : (k : ℕ) → r .kind ≡ k → tableStep arity r (waits dynamic known w) ≡ true
         → (r ≡ rec k 0 (r .half) 0 0) × (leb 1 (r .half) && (leb (r .half) arity && argsOk arity (suc (r .half)) (w .tables)) ≡ true)
     unfolding tableStep

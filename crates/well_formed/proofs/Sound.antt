@@ -34,7 +34,7 @@ use Rattle.well_formed.specs.WellFormed.{recsOk, wellFormed}
 
 -- ---- order and good lines make a well-formed index
 
-args-true : (m n : ℕ) (ts : List Table) → Args m n ts → argsOk m n ts ≡ true
+pub args-true : (m n : ℕ) (ts : List Table) → Args m n ts → argsOk m n ts ≡ true
 args-true m n [] r = refl
 args-true m n (t ∷ ts) r = both (le-true n (argOf t) (r .0)) (both (le-true (argOf t) m (r .1)) (args-true m (suc (argOf t)) ts (r .2)))
 

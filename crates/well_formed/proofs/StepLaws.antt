@@ -44,7 +44,7 @@ module _ (arity : ℕ) (dynamic : Bool) (known : ℕ → Bool) (total k : ℕ) (
   unfolding stepOk
   step-clause e = rw e
 
--- what waits in front of an entry
+-- the state once an entry is read
 pub after-entry : (k : ℕ) (r : Rec) (s : Waits) (a : ℕ) → k ≡ 5 → atEntry s (groupBySort (r .sub)) a ≡ after k r s a
 unfolding after
 after-entry k r s a e = rw e

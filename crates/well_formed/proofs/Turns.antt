@@ -1,4 +1,4 @@
--- What one record makes of what waits, by its kind.
+-- What one record makes of the state of the reading, by its kind.
 -- Assumes nothing.
 use mathlib.Core.Path.{_≡_, refl, ap}
 use mathlib.Core.Bool.{Bool, true, false, cond, _&&_}
@@ -47,7 +47,7 @@ turn-of k r w = go (eqb k 1) (eqb k 2) (eqb k 3) (eqb k 4) (eqb k 5) (eqb k 6) r
     go false false false false false true e₁ e₂ e₃ e₄ e₅ e₆ = turn-choice (eqb-true e₆)
     go false false false false false false e₁ e₂ e₃ e₄ e₅ e₆ = turn-other e₁ e₂ e₃ e₄ e₅ e₆
 
--- at most one line and one entry more wait
+-- the state has at most one line and one entry more
 pub turn-bound : {k : ℕ} {r : Rec} {w v : Waiting} → Turn k r w v
     → (length (v .lines) ≤ suc (length (w .lines))) × (length (v .entries) ≤ suc (length (w .entries)))
 turn-bound (turn-line e) = omega arith
@@ -74,7 +74,7 @@ turn-lines (turn-choice e) = rw e
 turn-lines (turn-other e₁ e₂ e₃ e₄ e₅ e₆) = rw e₁
 
 module _ (dynamic : Bool) (known : ℕ → Bool) where
-  -- what the code keeps follows what waits
+  -- what the code keeps follows the state
   pub turn-after : {k : ℕ} {r : Rec} {w v : Waiting} → Turn k r w v
       → after k r (waits dynamic known w) (reach dynamic known (w .lines) (pointerFrom (r .word))) ≡ waits dynamic known v
   unfolding after
@@ -86,7 +86,7 @@ module _ (dynamic : Bool) (known : ℕ → Bool) where
   turn-after (turn-choice e) = rw e
   turn-after (turn-other e₁ e₂ e₃ e₄ e₅ e₆) = rw (e₁, e₂, e₃, e₄, e₅, e₆)
 
--- ---- the entries that wait are the records in front
+-- ---- the entries with no switch yet are the records in front
 
 abbrev pub Forms : List Rec → Type 0
 Forms qs = All (λ (q : Rec). formOk (q .sub) (q .half) (q .long) ≡ true) qs

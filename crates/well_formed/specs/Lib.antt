@@ -1,2 +1,3 @@
 pub mod WellFormed
 pub mod Pass
+pub mod Chains

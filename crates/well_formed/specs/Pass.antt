@@ -37,7 +37,7 @@ abbrev pub lower : ℕ → ℕ → ℕ
 lower m n = cond (ltb m n) m n
 
 module _ (dynamic : Bool) (known : ℕ → Bool) where
-  -- a pointer's reach: its switch must have an argument below this number, 0 where the pointer is wrong; ls are the lines behind its own
+  -- a pointer's bound: its switch must have an argument below this number, 0 where the pointer is wrong; ls are the lines behind its own
   abbrev pub reach : Index → Ptr → ℕ
   reach ls (ext o) = cond (not dynamic && known o) 33 0
   reach ls (int zero) = 0
@@ -48,7 +48,7 @@ module _ (dynamic : Bool) (known : ℕ → Bool) where
   least ls [] = 33
   least ls (e ∷ es) = lower (reach ls (e .to)) (least ls es)
 
-  -- of what waits, that which the check of the record before needs
+  -- of the state of the reading, what the check of the next record needs
   abbrev pub waits : Waiting → Waits
   waits w = record {
     entries = length (w .entries);
@@ -88,7 +88,7 @@ unfoldable pub tableStep : ℕ → Rec → Waits → Bool
 tableStep arity r s =
     eqb (r .sub) 0 && (eqb (r .word) 0 && (eqb (r .long) 0 && (leb 1 (r .half) && (leb (r .half) arity && ltb (r .half) (s .first)))))
 
--- a switch: its argument is below what its pointers reach
+-- a switch: its argument is below the bounds of its pointers
 unfoldable pub switchStep : ℕ → Rec → Waits → Bool
 switchStep arity r s = eqb (s .clause) 0 && (ltb (r .half) (s .below) && tableStep arity r s)
 
@@ -113,7 +113,7 @@ unfoldable pub clauseStep : (ℕ → Bool) → Rec → Waits → Bool
 clauseStep known r s =
     eqb (s .entries) 0 && (eqb (r .sub) 0 && (eqb (r .half) 0 && (eqb (r .long) 0 && rises known (r .word) (s .clause))))
 
--- a record of kind k in front of what waits
+-- a record of kind k in front of the records that are read
 unfoldable pub stepOk : ℕ → Bool → (ℕ → Bool) → ℕ → ℕ → Rec → Waits → Bool
 stepOk arity dynamic known total k r s =
     cond (eqb k 1) (lineStep dynamic total r s)
@@ -124,11 +124,11 @@ stepOk arity dynamic known total k r s =
     (cond (eqb k 6) (choiceStep dynamic known r s)
     (cond (eqb k 7) (clauseStep known r s) false))))))
 
--- what waits where a line begins, or nothing is read
+-- the state where a line begins, or nothing is read
 abbrev pub fresh : ℕ → Waits
 fresh lines = record { entries = 0; group = 4; below = 33; clause = 0; first = 33; offset = 0; lines = lines }
 
--- what waits once a switch is read, an on-demand table, a dead table, an entry, an offset, a dead clause
+-- the state once a switch is read, an on-demand table, a dead table, an entry, an offset, a dead clause
 abbrev pub atSwitch : Waits → ℕ → Waits
 atSwitch s a = record { entries = 0; group = 4; below = 33; clause = s .clause; first = a; offset = s .offset; lines = s .lines }
 
@@ -155,7 +155,7 @@ atChoice s o = record { entries = s .entries; group = s .group; below = s .below
 abbrev pub atClause : Waits → ℕ → Waits
 atClause s o = record { entries = s .entries; group = s .group; below = s .below; clause = o; first = s .first; offset = s .offset; lines = s .lines }
 
--- what waits once a record of kind k is read; for an entry, a is its pointer's reach
+-- the state once a record of kind k is read; for an entry, a is its pointer's bound
 unfoldable pub after : ℕ → Rec → Waits → ℕ → Waits
 after k r s a =
     cond (eqb k 1) (fresh (s .lines + 1))
@@ -179,7 +179,7 @@ marked marks o = eqb (getD marks o 0) 1
 abbrev pub Marks : List ℕ → List ℕ → Type 0
 Marks marks starts = (o : ℕ) → marked marks o ≡ known starts o
 
--- a pointer's reach, firsts the first arguments of the lines behind, the last line's first
+-- a pointer's bound, firsts the first arguments of the lines behind, the last line's first
 unfoldable pub reachIn : Bool → (ℕ → Bool) → List ℕ → ℕ → Ptr → ℕ
 reachIn dynamic known firsts lines (ext o) = cond (not dynamic && known o) 33 0
 reachIn dynamic known firsts lines (int d) = cond (ltb d 1) 0 (cond (ltb lines d) 0 (getD firsts (lines - d) 0))
@@ -213,23 +213,23 @@ once (k ∷ ks) = not (any (same k) ks) && once ks
 unfoldable pub keysOnce : ℕ → List (Entry Ptr) → Bool
 keysOnce k es = cond (eqb k 2) (once (entryKeys es)) true
 
--- nothing waits, and there is a line
+-- nothing is left without a table or line record in front, and there is a line
 unfoldable pub closed : Waits → Bool
 closed s = eqb (s .entries) 0 && (eqb (s .clause) 0 && (eqb (s .first) 33 && (eqb (s .offset) 0 && ltb 0 (s .lines))))
 
--- what waits where nothing is read
+-- the state where nothing is read
 abbrev pub nothing : Waiting
 nothing = waiting [] [] [] [] []
 
 module _ (arity : ℕ) (dynamic : Bool) (known : ℕ → Bool) where
-  -- each record passes, with what waits behind it
+  -- each record passes in front of those behind it
   unfoldable pub pass : ℕ → Waiting → List Rec → Bool
   pass total w [] = true
   pass total w (r ∷ rs) =
       let v = readAll rs w in
       (stepOk arity dynamic known total (r .kind) r (waits dynamic known v) && keysOnce (r .kind) (v .entries)) && pass total w rs
 
-  -- all pass, and nothing waits in front of the first
+  -- all pass, and nothing is left in front of the first
   unfoldable pub checked : ℕ → List Rec → Bool
   checked total rs = pass total nothing rs && closed (waits dynamic known (readAll rs nothing))
 

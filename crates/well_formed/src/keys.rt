@@ -2,12 +2,13 @@
 use records::Rec;
 ghost use mathlib.Core.Path.{_≡_};
 ghost use mathlib.Core.Bool.{cond, true};
-ghost use Prim.Native.Nat.{_+_, _≤_};
+ghost use Prim.Native.Nat.{_+_, _-_, _<_, _≤_};
 ghost use lib.Dec.{eqb};
-ghost use lib.ListN.{length};
+ghost use lib.ListN.{length, getD, set};
 ghost use lib.Seq.{slice};
-ghost use Rattle.records.specs.Records.{recordsOf};
+ghost use Rattle.records.specs.Records.{recordsOf, none};
 ghost use Rattle.well_formed.specs.Pass.{sameFields, among, distinctKeys};
+ghost use Rattle.well_formed.specs.Chains.{bucketOf, Cleared, Chained};
 
 // Whether two entries have equal keys.
 fn same_fields(r: Rec, q: Rec) -> bool
@@ -45,7 +46,7 @@ fn key_among(index: &[u8], r: Rec, from: usize, to: usize) -> bool
 }
 
 // Whether no two of the entries from a place up to another have equal keys, pair by pair.
-pub fn distinct_keys(index: &[u8], from: usize, to: usize) -> bool
+fn distinct_pairs(index: &[u8], from: usize, to: usize) -> bool
     requires { ⌜ to ≤ length (recordsOf (now index)) ⌝ }
     ensures { λ b. ⌜ b ≡ distinctKeys (slice from to (recordsOf (now (index .entry)))) ⌝ }
 {
@@ -59,6 +60,128 @@ pub fn distinct_keys(index: &[u8], from: usize, to: usize) -> bool
         i += 1;
     }
     true
+}
+
+// The bucket of a key: of sort, arity and bits alone, so that equal keys have the same.
+fn bucket_of(r: Rec, size: usize) -> usize
+    requires { ⌜ 0 < size ⌝ }
+    ensures { λ b. ⌜ (b ≡ bucketOf size r) × (b < size) ⌝ }
+{
+    let bits = r.long % 4294967291;
+    let arity = r.half as u64;
+    let sort = r.sub as u64;
+    ((bits + 40503 * arity + 65537 * sort) % (size as u64)) as usize
+}
+
+// Whether one of the entries behind a place, up to another, has its key: those in its bucket are looked at, one by one. Where 32 of
+// them do not decide it, all entries behind are looked at: a crowded bucket costs no more than pair by pair.
+fn key_chained(
+    index: &[u8],
+    at: usize,
+    to: usize,
+    bucket: usize,
+    heads: &[u16],
+    links: &[u16],
+) -> bool
+    requires { ⌜ (at < to) × (to ≤ length (recordsOf (now index))) × (to - at ≤ length (now links)) ⌝ }
+    requires { ⌜ (bucket ≡ bucketOf (length (now heads)) (getD (recordsOf (now index)) at none)) × (bucket < length (now heads)) ⌝ }
+    requires { ⌜ Chained (now heads) (now links) (slice (at + 1) to (recordsOf (now index))) ⌝ }
+    ensures { λ b. ⌜ b ≡ among (getD (recordsOf (now (index .entry))) at none) (slice (at + 1) to (recordsOf (now (index .entry)))) ⌝ }
+{
+    let r = records::get(index, at);
+    let mut number = heads[bucket] as usize;
+    let mut steps = 0usize;
+    while 0 < number {
+        if steps == 32 {
+            return key_among(index, r, at + 1, to);
+        }
+        let q = records::get(index, to - number);
+        if same_fields(r, q) {
+            return true;
+        }
+        number = links[number - 1] as usize;
+        steps += 1;
+    }
+    false
+}
+
+// An entry becomes the first of its bucket; number entries are behind it. A bucket holds the number of its first entry, counted from
+// the last (0: none), a link that of the next one in the same bucket.
+fn push(heads: &mut [u16], links: &mut [u16], bucket: usize, number: usize)
+    requires { ⌜ (bucket < length (now heads)) × (number < length (now links)) × (number < 65535) ⌝ }
+    ensures { λ _. ⌜ now (heads .exit) ≡ set (now (heads .entry)) bucket (number + 1) ⌝ }
+    ensures { λ _. ⌜ now (links .exit) ≡ set (now (links .entry)) number (getD (now (heads .entry)) bucket 0) ⌝ }
+{
+    links[number] = heads[bucket];
+    heads[bucket] = (number + 1) as u16;
+}
+
+// Whether no two of the entries have equal keys: from the last to the first, each compared with those behind it in its bucket.
+fn distinct_chained(
+    index: &[u8],
+    from: usize,
+    to: usize,
+    heads: &mut [u16],
+    links: &mut [u16],
+) -> bool
+    requires { ⌜ (from ≤ to) × (to ≤ length (recordsOf (now index))) ⌝ }
+    requires { ⌜ (to - from ≤ length (now links)) × (to - from ≤ 65535) ⌝ }
+    requires { ⌜ (0 < length (now heads)) × Cleared (now heads) ⌝ }
+    ensures { λ b. ⌜ b ≡ distinctKeys (slice from to (recordsOf (now (index .entry)))) ⌝ }
+{
+    let mut i = to;
+    while from < i {
+        let number = to - i;
+        i -= 1;
+        let r = records::get(index, i);
+        let bucket = bucket_of(r, heads.len());
+        if key_chained(index, i, to, bucket, heads, links) {
+            return false;
+        }
+        push(heads, links, bucket, number);
+    }
+    true
+}
+
+// The same for at most 1,024 entries, with little to clear.
+fn distinct_few(index: &[u8], from: usize, to: usize) -> bool
+    requires { ⌜ (from ≤ to) × (to ≤ length (recordsOf (now index))) × (to - from ≤ 1024) ⌝ }
+    ensures { λ b. ⌜ b ≡ distinctKeys (slice from to (recordsOf (now (index .entry)))) ⌝ }
+{
+    let mut heads = [0u16; 1021];
+    let mut links = [0u16; 1024];
+    distinct_chained(index, from, to, &mut heads, &mut links)
+}
+
+// The same for as many entries as an index can have.
+fn distinct_many(index: &[u8], from: usize, to: usize) -> bool
+    requires { ⌜ (from ≤ to) × (to ≤ length (recordsOf (now index))) × (to - from ≤ 65535) ⌝ }
+    ensures { λ b. ⌜ b ≡ distinctKeys (slice from to (recordsOf (now (index .entry)))) ⌝ }
+{
+    let mut heads = [0u16; 16381];
+    let mut links = [0u16; 65535];
+    distinct_chained(index, from, to, &mut heads, &mut links)
+}
+
+// Whether no two of the entries from a place up to another have equal keys: few pair by pair, more by buckets.
+pub fn distinct_keys(index: &[u8], from: usize, to: usize) -> bool
+    requires { ⌜ to ≤ length (recordsOf (now index)) ⌝ }
+    ensures { λ b. ⌜ b ≡ distinctKeys (slice from to (recordsOf (now (index .entry)))) ⌝ }
+{
+    if to <= from {
+        return true;
+    }
+    let count = to - from;
+    if count <= 32 {
+        return distinct_pairs(index, from, to);
+    }
+    if count <= 1024 {
+        return distinct_few(index, from, to);
+    }
+    if count <= 65535 {
+        return distinct_many(index, from, to);
+    }
+    distinct_pairs(index, from, to)
 }
 
 // The keys behind a switch record are distinct; any other record asks nothing of keys.

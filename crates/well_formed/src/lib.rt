@@ -1,4 +1,6 @@
-// Number 12: whether a handed-in index is well formed, in one pass over its records, from the last to the first.
+// Number 12: whether a handed-in index is well formed. Its lines are counted, then its records are checked in one pass from the last to the
+// first, with the keys of each switch compared where its record is met.
+pub mod forms;
 mod keys;
 mod steps;
 
@@ -13,9 +15,9 @@ ghost use Rattle.indexing_iter.specs.Clauses.{known};
 ghost use Rattle.well_formed.specs.WellFormed.{wellFormed};
 ghost use Rattle.well_formed.specs.Pass.{closed, marked, Marks, oneLine, checked};
 
-// What is read and waits for a record before it: how many entries, the group of the first of them (4: none) and what the
-// argument of their switch must be below; the first dead clause (0: none); the first table's argument (33: none); the
-// first offset (0: none); how many lines are behind.
+// The state of the pass. Of what has no table or line record in front of it yet: how many entries, the group of the first of
+// them (4: none) and what the argument of their switch must be below; the first dead clause (0: none); the first table's
+// argument (33: none); the first offset (0: none). And how many lines are behind.
 pub struct Waits {
     pub entries: usize,
     pub group: u8,
@@ -26,7 +28,7 @@ pub struct Waits {
     pub lines: usize,
 }
 
-// Whether nothing waits, and there is a line.
+// Whether nothing is left without a table or line record in front, and there is a line.
 fn is_closed(s: Waits) -> bool
     ensures { λ b. ⌜ b ≡ closed s ⌝ }
 {
@@ -89,7 +91,7 @@ fn mark_starts(marks: &mut [u8], starts: &[u32])
     }
 }
 
-// The records from the last to the first, each with what waits behind it; firsts takes the first arguments of the lines.
+// The records from the last to the first, each in front of those behind it; firsts takes the first arguments of the lines.
 fn check_records(
     index: &[u8],
     count: usize,

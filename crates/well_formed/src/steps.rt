@@ -1,104 +1,14 @@
-// One record in front of what waits: what number 12 asks of it by its kind, and what waits then.
+// One record in front of those that are read: what number 12 asks of it by its kind, and the state of the pass once it is read.
+use crate::forms;
 use crate::Waits;
 use records::Rec;
 ghost use mathlib.Core.Path.{_≡_};
-ghost use mathlib.Core.Bool.{cond, not, _&&_};
-ghost use Prim.Native.Nat.{_-_, _<_};
-ghost use lib.Dec.{ltb};
-ghost use lib.ListN.{length, getD};
-ghost use Rattle.indexing.specs.Lines.{modeOf};
+ghost use Prim.Native.Nat.{_<_};
+ghost use lib.ListN.{length};
 ghost use Rattle.indexing.specs.Reading.{pointerFrom};
-ghost use Rattle.well_formed.specs.Pass.{lower, groupBySort, formOk, rises, tagIn, lineStep, tableStep, switchStep, demandStep, deadStep};
+ghost use Rattle.well_formed.specs.Pass.{lineStep, tableStep, switchStep, demandStep, deadStep};
 ghost use Rattle.well_formed.specs.Pass.{entryStep, choiceStep, clauseStep, stepOk, fresh, atSwitch, atDemand, atDead, atEntry, atChoice, atClause};
 ghost use Rattle.well_formed.specs.Pass.{after, marked, reachIn, noted};
-
-// Whether an offset is a clause's: marks has a 1 there.
-fn is_known(marks: &[u8], offset: u32) -> bool
-    ensures { λ b. ⌜ b ≡ marked (now (marks .entry)) offset ⌝ }
-{
-    let at = offset as usize;
-    if at < marks.len() {
-        return marks[at] == 1;
-    }
-    false
-}
-
-// Whether an offset may stand in front of others, of which first is the first (0: there is none).
-fn may_rise(marks: &[u8], offset: u32, first: u32) -> bool
-    ensures { λ b. ⌜ b ≡ rises (marked (now (marks .entry))) offset first ⌝ }
-{
-    if !is_known(marks, offset) {
-        return false;
-    }
-    if first == 0 {
-        return true;
-    }
-    offset < first
-}
-
-// An offset's tag is 6 or 7 if dynamic, else 1 to 5.
-fn tag_ok(dynamic: bool, tag: u8) -> bool
-    ensures { λ b. ⌜ b ≡ tagIn dynamic tag ⌝ }
-{
-    if dynamic {
-        if tag < 6 {
-            return false;
-        }
-        return tag <= 7;
-    }
-    if tag < 1 {
-        return false;
-    }
-    tag <= 5
-}
-
-// The fields of an entry are a key's: of a literal the arity is 0, of a list arity and bits are.
-fn form_ok(sort: u8, arity: u16, bits: u64) -> bool
-    ensures { λ b. ⌜ b ≡ formOk sort arity bits ⌝ }
-{
-    if sort == 4 {
-        return true;
-    }
-    if sort == 5 {
-        if arity != 0 {
-            return false;
-        }
-        return bits == 0;
-    }
-    if sort < 1 {
-        return false;
-    }
-    if 3 < sort {
-        return false;
-    }
-    arity == 0
-}
-
-// The group of a key by its sort: 1 literals, 2 list, 3 structures.
-fn group_by_sort(sort: u8) -> u8
-    ensures { λ g. ⌜ g ≡ groupBySort sort ⌝ }
-{
-    if sort == 0 {
-        return 0;
-    }
-    if sort == 4 {
-        return 3;
-    }
-    if sort == 5 {
-        return 2;
-    }
-    1
-}
-
-// A line's sub.
-fn mode_of(dynamic: bool) -> u8
-    ensures { λ m. ⌜ m ≡ modeOf dynamic ⌝ }
-{
-    if dynamic {
-        return 1;
-    }
-    0
-}
 
 // A line record: it has the number that is due, total the number of all lines, and a static line has an offset.
 fn line_ok(r: Rec, s: Waits, total: usize, dynamic: bool) -> bool
@@ -113,7 +23,7 @@ fn line_ok(r: Rec, s: Waits, total: usize, dynamic: bool) -> bool
     let entries = s.entries;
     let clause = s.clause;
     let offset = s.offset;
-    if sub != mode_of(dynamic) {
+    if sub != forms::mode_of(dynamic) {
         return false;
     }
     if half != 0 {
@@ -164,7 +74,7 @@ fn table_ok(r: Rec, s: Waits, arity: u32) -> bool
     half < first
 }
 
-// A switch: no dead clause follows, and its argument is below what its pointers reach.
+// A switch: no dead clause follows, and its argument is below the bounds of its pointers.
 fn switch_ok(r: Rec, s: Waits, arity: u32) -> bool
     ensures { λ b. ⌜ b ≡ switchStep arity r s ⌝ }
 {
@@ -212,10 +122,10 @@ fn entry_ok(r: Rec, s: Waits) -> bool
 {
     let sub = r.sub;
     let group = s.group;
-    if !form_ok(sub, r.half, r.long) {
+    if !forms::form_ok(sub, r.half, r.long) {
         return false;
     }
-    group_by_sort(sub) <= group
+    forms::group_by_sort(sub) <= group
 }
 
 // An offset: no table and nothing of a table follows, its tag is the mode's, and it is below the next offset.
@@ -242,10 +152,10 @@ fn choice_ok(r: Rec, s: Waits, marks: &[u8], dynamic: bool) -> bool
     if long != 0 {
         return false;
     }
-    if !tag_ok(dynamic, r.sub) {
+    if !forms::tag_ok(dynamic, r.sub) {
         return false;
     }
-    may_rise(marks, r.word, s.offset)
+    forms::may_rise(marks, r.word, s.offset)
 }
 
 // A dead clause: no entry follows, and it is below the next dead clause.
@@ -268,10 +178,10 @@ fn clause_ok(r: Rec, s: Waits, marks: &[u8]) -> bool
     if long != 0 {
         return false;
     }
-    may_rise(marks, r.word, s.clause)
+    forms::may_rise(marks, r.word, s.clause)
 }
 
-// What number 12 asks of a record in front of what waits, but for the keys of a switch.
+// What number 12 asks of a record in front of those that are read, but for the keys of a switch.
 pub fn record_ok(r: Rec, s: Waits, marks: &[u8], total: usize, arity: u32, dynamic: bool) -> bool
     requires { ⌜ s .lines < 65536 ⌝ }
     ensures { λ b. ⌜ b ≡ stepOk arity dynamic (marked (now (marks .entry))) total (r .kind) r s ⌝ }
@@ -289,55 +199,7 @@ pub fn record_ok(r: Rec, s: Waits, marks: &[u8], total: usize, arity: u32, dynam
     }
 }
 
-// The reach of an external pointer: every argument may have it, if it is a known offset and not dynamic.
-fn outer_reach(offset: u32, marks: &[u8], dynamic: bool) -> u16
-    ensures { λ a. ⌜ a ≡ cond (not dynamic && marked (now (marks .entry)) offset) 33 0 ⌝ }
-{
-    if dynamic {
-        return 0;
-    }
-    if is_known(marks, offset) {
-        return 33;
-    }
-    0
-}
-
-// The reach of an internal pointer: the first argument of the line that it leads to, which is one of the lines behind.
-fn inner_reach(distance: usize, firsts: &[u16], lines: usize) -> u16
-    requires { ⌜ lines < length (now firsts) ⌝ }
-    ensures { λ a. ⌜ a ≡ cond (ltb distance 1) 0 (cond (ltb lines distance) 0 (getD (now (firsts .entry)) (lines - distance) 0)) ⌝ }
-{
-    if distance < 1 {
-        return 0;
-    }
-    if lines < distance {
-        return 0;
-    }
-    firsts[lines - distance]
-}
-
-// A pointer's reach: its switch must have an argument below this, 0 where the pointer is wrong.
-fn reach_of(word: u32, firsts: &[u16], lines: usize, marks: &[u8], dynamic: bool) -> u16
-    requires { ⌜ lines < length (now firsts) ⌝ }
-    ensures { λ a. ⌜ a ≡ reachIn dynamic (marked (now (marks .entry))) (now (firsts .entry)) lines (pointerFrom word) ⌝ }
-{
-    if records::pointer::is_internal(word) {
-        return inner_reach(records::pointer::distance(word) as usize, firsts, lines);
-    }
-    outer_reach(word, marks, dynamic)
-}
-
-// The lower of two numbers.
-fn lower(a: u16, b: u16) -> u16
-    ensures { λ c. ⌜ c ≡ lower a b ⌝ }
-{
-    if a < b {
-        return a;
-    }
-    b
-}
-
-// What waits where a line begins, or nothing is read.
+// The state where a line begins, or nothing is read.
 pub fn at_line(lines: usize) -> Waits
     ensures { λ t. ⌜ t ≡ fresh lines ⌝ }
 {
@@ -352,7 +214,7 @@ pub fn at_line(lines: usize) -> Waits
     }
 }
 
-// What waits once a switch is read.
+// The state once a switch is read.
 fn at_switch(s: Waits, argument: u16) -> Waits
     ensures { λ t. ⌜ t ≡ atSwitch s argument ⌝ }
 {
@@ -383,7 +245,7 @@ fn at_dead(s: Waits, argument: u16) -> Waits
     t
 }
 
-// An entry, reach that of its pointer.
+// An entry, reach the bound of its pointer.
 fn at_entry(s: Waits, group: u8, reach: u16) -> Waits
     requires { ⌜ s .entries < 65536 ⌝ }
     ensures { λ t. ⌜ t ≡ atEntry s group reach ⌝ }
@@ -391,7 +253,7 @@ fn at_entry(s: Waits, group: u8, reach: u16) -> Waits
     let mut t = s;
     t.entries = s.entries + 1;
     t.group = group;
-    t.below = lower(reach, s.below);
+    t.below = forms::lower(reach, s.below);
     t
 }
 
@@ -413,7 +275,7 @@ fn at_clause(s: Waits, offset: u32) -> Waits
     t
 }
 
-// What waits once a record is read, firsts the first arguments of the lines behind, the last line's first.
+// The state once a record is read, firsts the first arguments of the lines behind, the last line's first.
 pub fn after(r: Rec, s: Waits, firsts: &[u16], marks: &[u8], dynamic: bool) -> Waits
     requires { ⌜ (s .entries < 65536) × (s .lines < 65536) × (s .lines < length (now firsts)) ⌝ }
     ensures { λ t. ⌜ t ≡ after (r .kind) r s (reachIn dynamic (marked (now (marks .entry))) (now (firsts .entry)) (s .lines) (pointerFrom (r .word))) ⌝ }
@@ -426,8 +288,8 @@ pub fn after(r: Rec, s: Waits, firsts: &[u16], marks: &[u8], dynamic: bool) -> W
         4 => at_dead(s, r.half),
         5 => at_entry(
             s,
-            group_by_sort(r.sub),
-            reach_of(r.word, firsts, s.lines, marks, dynamic),
+            forms::group_by_sort(r.sub),
+            forms::reach_of(r.word, firsts, s.lines, marks, dynamic),
         ),
         6 => at_choice(s, r.word),
         _ => at_clause(s, r.word),

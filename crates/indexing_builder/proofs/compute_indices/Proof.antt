@@ -8,8 +8,8 @@ use Rattle.indexing_builder.proofs.compute_indices.Tie as tie
 use Rattle.indexing_builder.proofs.compute_indices.Reads as reads
 use Rattle.indexing_builder.proofs.compute_indices.Lts as lts
 use Rattle.indexing_builder.proofs.build_checked.Reads as build-checked-reads
-use Rattle.indexing_builder.proofs.number_of.Reads as number-of-reads
 use Rattle.indexing_iter.proofs.checks.check_build.Reads as check-build-reads
+use Rattle.indexing_iter.proofs.checks.number_of.Reads as number-of-reads
 
 -- src/lib.rt:197:9
 check-build-requires : tie.Need-check-build-requires

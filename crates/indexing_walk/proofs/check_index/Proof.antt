@@ -8,7 +8,8 @@ use Rattle.indexing.specs.Builder.{capacityOf}
 use Rattle.indexing_iter.specs.Classes.{classOf}
 use Rattle.indexing_iter.specs.Checks.{risingBelow}
 use Rattle.indexing_iter.proofs.KeyLaws.{code-ok}
-use Rattle.indexing_walk.proofs.StandLaws.{capacity-within, capacity-small}
+use Rattle.indexing_builder.proofs.BuilderLaws.{capacity-within}
+use Rattle.indexing_walk.proofs.StandLaws.{capacity-small}
 use Rattle.indexing_walk.proofs.CallingLaws.{index-over, index-by}
 use borrow.Author.Needs.{needs}
 use Rattle.indexing_walk.proofs.check_index.Statement.{statement}
@@ -19,21 +20,17 @@ use Rattle.indexing_builder.proofs.capacity.Reads as capacity-reads
 use Rattle.records.proofs.capacity.Reads as capacity-reads′
 use Rattle.well_formed.proofs.well_formed.Reads as well-formed-reads
 
--- src/lib.rt:436:9
 capacity-requires : tie.Need-capacity-requires
 capacity-requires c κs = search needs
 
--- src/lib.rt:438:9
 returns : tie.Need-returns
 returns c =
     let a = c .before .before .before .before .before .args in
     index-over (a .settings) (a .starts .now) (a .index .now) (a .count) (omega (arith, c .before .capacity .ensures .0, c .if1 .taken))
 
--- src/lib.rt:440:9
 capacity-requires-2 : tie.Need-capacity-requires-2
 capacity-requires-2 c κs = search needs
 
--- src/lib.rt:441:8
 well-formed-requires : tie.Need-well-formed-requires
 well-formed-requires c κs =
     let s = c .before .before .before .before .before .before in
@@ -44,14 +41,12 @@ well-formed-requires c κs =
     ((omega (arith, h, capacity-within (a .index .now)), omega (arith, h, capacity-small (a .index .now))),
     ((subst (λ (x : ℕ). risingBelow x (a .starts .now) ≡ true) (sym n) (ok .rising), omega (arith, n, ok .size)), ok .arity-to))
 
--- src/lib.rt:442:9
 returns-2 : tie.Need-returns-2
 returns-2 c =
     let a = c .before .before .before .before .before .before .before .before .args in
     let h : a .count ≤ capacityOf (a .index .now) = omega (arith, c .before .before .before .before .capacity .ensures .0, c .before .before .before .if1 .left) in
     index-by (a .settings) (a .starts .now) (a .index .now) (a .count) true h (sym (c .before .well-formed .ensures) ∙ c .if2 .taken)
 
--- src/lib.rt:432:1
 returns-3 : tie.Need-returns-3
 returns-3 c =
     let a = c .before .before .before .before .before .before .before .before .args in

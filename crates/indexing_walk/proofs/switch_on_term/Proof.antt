@@ -12,44 +12,36 @@ use Rattle.indexing_walk.proofs.check_index.Reads as check-index-reads
 use Rattle.indexing_walk.proofs.refusal_of.Reads as refusal-of-reads
 use Rattle.indexing_walk.proofs.walk_lists.Reads as walk-lists-reads
 
--- src/lib.rt:463:9
 check-code-requires : tie.Need-check-code-requires
 check-code-requires c κs = search needs
 
 enum-told : tie.Need-enum-told
 enum-told c = search needs
 
--- src/lib.rt:465:9
 enum-told-2 : tie.Need-enum-told-2
 enum-told-2 c = search needs
 
--- src/lib.rt:465:9
 refusal-of-requires : tie.Need-refusal-of-requires
 refusal-of-requires c κs = search needs
 
--- src/lib.rt:465:9
 returns : tie.Need-returns
 returns c =
     let a = c .before .before .before .before .before .before .before .before .before .args in
     let x = c .before .before .before .check-code in
     refused-1 (a .code .now) (a .starts .now) (a .settings) (a .call .now) (a .index .now) (a .count) (a .out .now) (x .result) _ (c .refusal-of .result) (c .before .enum-told2 .given .1) (c .refusal-of .ensures) (x .ensures)
 
--- src/lib.rt:467:9
 check-call-requires : tie.Need-check-call-requires
 check-call-requires c κs = search needs
 
 enum-told-3 : tie.Need-enum-told-3
 enum-told-3 c = search needs
 
--- src/lib.rt:469:9
 enum-told-4 : tie.Need-enum-told-4
 enum-told-4 c = search needs
 
--- src/lib.rt:469:9
 refusal-of-requires-2 : tie.Need-refusal-of-requires-2
 refusal-of-requires-2 c κs = search needs
 
--- src/lib.rt:469:9
 returns-2 : tie.Need-returns-2
 returns-2 c =
     let a = c .before .before .before .before .before .before .before .before .before .before .before .before .args in
@@ -57,26 +49,21 @@ returns-2 c =
     let x = c .before .before .before .check-call in
     refused-2 (a .code .now) (a .starts .now) (a .settings) (a .call .now) (a .index .now) (a .count) (a .out .now) (x .result) _ (c .refusal-of2 .result) (c .before .enum-told4 .given .1) (c .refusal-of2 .ensures) p1 (x .ensures)
 
--- src/lib.rt:471:9
 check-out-requires : tie.Need-check-out-requires
 check-out-requires c κs = search needs
 
 enum-told-5 : tie.Need-enum-told-5
 enum-told-5 c = search needs
 
--- src/lib.rt:473:9
 enum-told-6 : tie.Need-enum-told-6
 enum-told-6 c = search needs
 
--- src/lib.rt:473:9
 refusal-of-requires-3 : tie.Need-refusal-of-requires-3
 refusal-of-requires-3 c κs = search needs
 
--- src/lib.rt:473:9
 same-length : tie.Need-same-length
 same-length c = search needs
 
--- src/lib.rt:473:9
 returns-3 : tie.Need-returns-3
 returns-3 c =
     let a = c .before .before .before .before .before .before .before .before .before .before .before .before .before .before .before .before .args in
@@ -85,7 +72,6 @@ returns-3 c =
     let x = c .before .before .before .check-out in
     refused-3 (a .code .now) (a .starts .now) (a .settings) (a .call .now) (a .index .now) (a .count) (a .out .now) (x .result) _ (c .refusal-of3 .result) (c .before .enum-told6 .given .1) (c .refusal-of3 .ensures) p1 p2 (x .ensures)
 
--- src/lib.rt:475:9
 check-index-requires : tie.Need-check-index-requires
 check-index-requires c κs =
     let p1 = sym (c .before .before .before .before .before .before .before .before .before .before .check-code .ensures) ∙ c .before .before .before .before .before .before .before .before .enum-told .given .1 in
@@ -94,23 +80,18 @@ check-index-requires c κs =
 enum-told-7 : tie.Need-enum-told-7
 enum-told-7 c = search needs
 
--- src/lib.rt:477:9
 enum-told-8 : tie.Need-enum-told-8
 enum-told-8 c = search needs
 
--- src/lib.rt:477:9
 refusal-of-requires-4 : tie.Need-refusal-of-requires-4
 refusal-of-requires-4 c κs = search needs
 
--- src/lib.rt:477:9
 same-length-2 : tie.Need-same-length-2
 same-length-2 c = search needs
 
--- src/lib.rt:477:9
 same-length-3 : tie.Need-same-length-3
 same-length-3 c = search needs
 
--- src/lib.rt:477:9
 returns-4 : tie.Need-returns-4
 returns-4 c =
     let a = c .before .before .before .before .before .before .before .before .before .before .before .before .before .before .before .before .before .before .before .before .args in
@@ -120,7 +101,6 @@ returns-4 c =
     let x = c .before .before .before .check-index in
     refused-4 (a .code .now) (a .starts .now) (a .settings) (a .call .now) (a .index .now) (a .count) (a .out .now) (x .result) _ (c .refusal-of4 .result) (c .before .enum-told8 .given .1) (c .refusal-of4 .ensures) p1 p2 p3 (x .ensures)
 
--- src/lib.rt:479:26
 walk-lists-requires : tie.Need-walk-lists-requires
 walk-lists-requires c κs =
     let a = c .before .before .before .before .before .before .before .before .before .before .before .before .before .before .before .before .before .before .before .before .before .args in
@@ -130,15 +110,12 @@ walk-lists-requires c κs =
     let p4 = sym (c .before .before .before .before .check-index .ensures) ∙ c .before .before .enum-told7 .given .1 in
     (p1, (p2, (out-passed (a .starts .now) (a .out .now) p3, index-passed (a .settings) (a .starts .now) (a .index .now) (a .count) p4)))
 
--- src/lib.rt:459:1
 same-length-4 : tie.Need-same-length-4
 same-length-4 c = search needs
 
--- src/lib.rt:459:1
 same-length-5 : tie.Need-same-length-5
 same-length-5 c = search needs
 
--- src/lib.rt:459:1
 returns-5 : tie.Need-returns-5
 returns-5 c =
     let a = c .before .before .before .before .before .before .before .before .before .before .before .before .before .before .before .before .before .before .before .before .before .before .before .before .before .before .args in

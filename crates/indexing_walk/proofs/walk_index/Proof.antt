@@ -6,7 +6,8 @@ use Rattle.records.specs.Records.{recordsOf}
 use Rattle.indexing_iter.specs.Classes.{classOf}
 use Rattle.indexing_iter.proofs.KeyLaws.{code-ok}
 use Rattle.indexing_scan.specs.Calls.{resultOf}
-use Rattle.indexing_walk.proofs.StandLaws.{capacity-within, capacity-small}
+use Rattle.indexing_builder.proofs.BuilderLaws.{capacity-within}
+use Rattle.indexing_walk.proofs.StandLaws.{capacity-small}
 use Rattle.indexing_walk.proofs.OuterLaws.{lines-few, starts-so, starts-kept, starts-comes, told-is}
 use borrow.Author.Needs.{needs}
 use Rattle.indexing_walk.proofs.walk_index.Statement.{statement}
@@ -17,7 +18,6 @@ use Rattle.indexing_walk.proofs.copy_list.Reads as copy-list-reads
 use Rattle.indexing_walk.proofs.walk_lines.Reads as walk-lines-reads
 use Rattle.well_formed.proofs.count_lines.Reads as count-lines-reads
 
--- src/lib.rt:402:9
 count-lines-requires : tie.Need-count-lines-requires
 count-lines-requires c κs =
     let s = c .before .before .before .before .before .before .before .before in
@@ -26,7 +26,6 @@ count-lines-requires c κs =
     let well = s .pre .1 .1 .1 .0 .1 in
     (omega (arith, fits, capacity-within (a .index .now)), omega (arith, fits, capacity-small (a .index .now)))
 
--- src/lib.rt:408:16
 cast-t15 : tie.Need-cast-t15
 cast-t15 c =
     let s = c .before .before .before .before .before .before .before .before .before in
@@ -37,7 +36,6 @@ cast-t15 c =
     let h : n ≤ 65535 = omega (arith, c .count-lines .ensures, lines-few (a .code .now) (a .starts .now) (a .settings) (a .call .now) (a .index .now) (a .count) n fits well (c .count-lines .ensures)) in
     search needs
 
--- src/lib.rt:412:9
 walk-lines-requires : tie.Need-walk-lines-requires
 walk-lines-requires c κs =
     let s = c .before .before .before .before .before .before .before .before .before .before .before .before in
@@ -47,7 +45,6 @@ walk-lines-requires c κs =
     let k = c .before .before .before .count-lines in
     (s .pre .0, (s .pre .1 .0, (starts-so (a .code .now) (a .starts .now) (a .settings) (a .call .now) (a .index .now) (a .count) (k .result) fits well (k .ensures), s .pre .1 .1 .1 .1)))
 
--- src/lib.rt:413:5
 copy-list-requires : tie.Need-copy-list-requires
 copy-list-requires c κs =
     let s = c .before .before .before .before .before .before .before .before .before .before .before .before .before .before .before .before .before .before .before .before .before in
@@ -59,23 +56,18 @@ copy-list-requires c κs =
     let few = code-ok classOf (a .settings .arity) (a .code .now) (a .starts .now) (s .pre .0) .few in
     (omega (arith, d .ensures .2, few, len, s .pre .1 .1 .1 .1 .0), omega (arith, d .ensures .2, s .pre .1 .1 .0))
 
--- src/lib.rt:383:1
 same-length : tie.Need-same-length
 same-length c = search needs
 
--- src/lib.rt:383:1
 same-length-2 : tie.Need-same-length-2
 same-length-2 c = search needs
 
--- src/lib.rt:383:1
 same-length-3 : tie.Need-same-length-3
 same-length-3 c = search needs
 
--- src/lib.rt:383:1
 same-length-4 : tie.Need-same-length-4
 same-length-4 c = search needs
 
--- src/lib.rt:383:1
 returns : tie.Need-returns
 returns c =
     let s = c .before .before .before .before .before .before .before .before .before .before .before .before .before .before .before .before .before .before .before .before .before .before .before .before in

@@ -9,7 +9,7 @@ use Rattle.indexing_walk.proofs.walk_lines.Statement.{statement}
 use Rattle.indexing_walk.proofs.walk_lines.Tie as tie
 use Rattle.indexing_walk.proofs.walk_lines.Reads as reads
 use Rattle.indexing_walk.proofs.walk_lines.Lts as lts
-use Rattle.indexing_walk.proofs.turn.Reads as turn-reads
+use Rattle.indexing_walk.proofs.turns.turn.Reads as turn-reads
 
 abbrev Inv-loop : tie.InvT-loop
 Inv-loop code starts settings call index₀ list₀ tags₀ w₀ index list tags w =
@@ -21,24 +21,20 @@ Inv-loop code starts settings call index₀ list₀ tags₀ w₀ index list tags
 abbrev μ-loop : tie.MeasureT-loop
 μ-loop code starts settings call index₀ list₀ tags₀ w₀ index list tags w = turnsLeft settings index w
 
--- src/lib.rt:346:5
 loop-holds : tie.Need-loop-holds Inv-loop μ-loop
 loop-holds c =
     let s = c .before .before .before .before .before .before in
     (s .pre .1 .1 .0, (λ W x. x), (λ b₀ x. x), refl, s .pre .1 .1 .1 .0, s .pre .1 .1 .1 .1)
 
--- src/lib.rt:347:13
 turn-requires : tie.Need-turn-requires Inv-loop μ-loop
 turn-requires c κs =
     let s = c .before .before .before .before .before .before .before .before .before .before in
     let l = c .before .before .before .loop in
     (s .pre .0, (s .pre .1 .0, (l .inv .0, (l .inv .4, l .inv .5))))
 
--- src/lib.rt:349:24
 enum-known-t : tie.Need-enum-known-t Inv-loop μ-loop
 enum-known-t c = search needs
 
--- src/lib.rt:346:5
 loop-less : tie.Need-loop-less Inv-loop μ-loop
 loop-less c =
     let l = c .before .before .before .before .before .before .before .before .before .before .before .before .before .loop in
@@ -46,7 +42,6 @@ loop-less c =
     let g = rw (c .before .t .given .1) at (d .ensures) in
     g .fewer
 
--- src/lib.rt:346:5
 loop-again : tie.Need-loop-again Inv-loop μ-loop
 loop-again c =
     let l = c .before .before .before .before .before .before .before .before .before .before .before .before .before .loop in
@@ -56,23 +51,18 @@ loop-again c =
     let n₂ : length (d .last .1 .1 .1 .1 .1 .1 .1 .0) ≡ length (l .tags) = search needs in
     (g .stands, (λ W x. g .comes W (l .inv .1 W x)), (λ b₀ x. g .kept b₀ (l .inv .2 b₀ x)), g .long ∙ l .inv .3, n₁ ∙ l .inv .4, n₂ ∙ l .inv .5)
 
--- src/lib.rt:352:26
 enum-known-t-2 : tie.Need-enum-known-t-2 Inv-loop μ-loop
 enum-known-t-2 c = search needs
 
--- src/lib.rt:353:17
 same-length : tie.Need-same-length Inv-loop μ-loop
 same-length c = search needs
 
--- src/lib.rt:353:17
 same-length-2 : tie.Need-same-length-2 Inv-loop μ-loop
 same-length-2 c = search needs
 
--- src/lib.rt:353:17
 same-length-3 : tie.Need-same-length-3 Inv-loop μ-loop
 same-length-3 c = search needs
 
--- src/lib.rt:353:17
 returns : tie.Need-returns Inv-loop μ-loop
 returns c =
     let l = c .before .before .before .before .before .before .before .before .before .before .before .before .before .loop in

@@ -6,29 +6,23 @@ use Rattle.indexing_walk.proofs.walk_lists.Reads as reads
 use Rattle.indexing_walk.proofs.walk_lists.Lts as lts
 use Rattle.indexing_walk.proofs.walk_index.Reads as walk-index-reads
 
--- src/lib.rt:428:65
 slice-aggregate-walk-index : tie.Need-slice-aggregate-walk-index
 slice-aggregate-walk-index c = search needs
 
--- src/lib.rt:428:76
 slice-aggregate-walk-index-2 : tie.Need-slice-aggregate-walk-index-2
 slice-aggregate-walk-index-2 c = search needs
 
--- src/lib.rt:428:5
 walk-index-requires : tie.Need-walk-index-requires
 walk-index-requires c κs =
     let s = c .before .before .before .before .before .before .before .before .before in
     (s .pre .0, (s .pre .1 .0, (s .pre .1 .1 .0, (s .pre .1 .1 .1, (refl, refl)))))
 
--- src/lib.rt:418:1
 same-length : tie.Need-same-length
 same-length c = search needs
 
--- src/lib.rt:418:1
 same-length-2 : tie.Need-same-length-2
 same-length-2 c = search needs
 
--- src/lib.rt:418:1
 returns : tie.Need-returns
 returns c = search needs
 

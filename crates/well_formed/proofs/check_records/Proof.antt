@@ -1,4 +1,4 @@
--- The records read have passed, and what is kept is what waits; a record that fails fails all. Assumes nothing.
+-- The records read have passed, and what is kept is the state of the reading; a record that fails fails all. Assumes nothing.
 use mathlib.Core.Path.{_≡_, refl, sym, _∙_}
 use Prim.Native.Nat.{_+_, _-_, _≤_, _<_}
 use native.Mathlib.Omega.{arith}

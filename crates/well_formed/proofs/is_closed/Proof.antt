@@ -1,4 +1,4 @@
--- Nothing waits: test by test. Assumes nothing.
+-- Nothing is left in front of the first record: test by test. Assumes nothing.
 use borrow.Author.Tests.{eq-eqb, ne-eqb}
 use Rattle.well_formed.specs.Pass.{closed}
 use Rattle.well_formed.proofs.is_closed.Statement.{statement}

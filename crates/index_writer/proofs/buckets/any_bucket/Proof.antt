@@ -7,7 +7,8 @@ use lib.ListN.{length}
 use borrow.Author.Needs.{needs}
 use Rattle.indexing.specs.Upto.{anyTo}
 use Rattle.indexing.specs.Columns.{opensBucket}
-use Rattle.index_writer.proofs.Upto.{any-none, any-skip, any-at, any-end}
+use Rattle.indexing.proofs.BridgeLists.{any-hit}
+use Rattle.index_writer.proofs.Upto.{any-none, any-skip, any-end}
 use Rattle.index_writer.proofs.buckets.any_bucket.Statement.{statement}
 use Rattle.index_writer.proofs.buckets.any_bucket.Tie as tie
 
@@ -26,7 +27,7 @@ opens-bucket-requires c κs = search needs
 returns : tie.Need-returns Inv-loop μ-loop
 returns c =
     let l = c .before .before .before in
-    sym (any-at _ _ (l .loop .i) (omega arith) (sym (c .before .opens-bucket .ensures) ∙ c .if1 .taken))
+    sym (any-hit _ _ (l .loop .i) (omega arith) (sym (c .before .opens-bucket .ensures) ∙ c .if1 .taken))
 
 add-i : tie.Need-add-i Inv-loop μ-loop
 add-i c = omega arith

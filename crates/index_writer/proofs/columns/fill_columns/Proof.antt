@@ -16,17 +16,14 @@ use Rattle.index_writer.proofs.columns.find_leaders.Reads as find-leade
 use Rattle.index_writer.proofs.columns.read_keys.Reads as read-keys-reads
 use Rattle.index_writer.proofs.columns.zeros.Reads as zeros-reads
 
--- src/columns.rt:195:5
 read-keys-requires : tie.Need-read-keys-requires
 read-keys-requires c κs =
     let s = c .before .before .before .before .before .before .before .before .before .before .before .before in
     (s .pre .0, (s .pre .1 .0, (s .pre .1 .1 .0, omega (arith, s))))
 
--- src/columns.rt:196:5
 find-leaders-requires : tie.Need-find-leaders-requires
 find-leaders-requires c κs = search needs
 
--- src/columns.rt:197:5
 count-sizes-requires : tie.Need-count-sizes-requires
 count-sizes-requires c κs =
     let s = c .before .before .before .before .before .before .before .before .before .before .before .before .before .before .before .before .before .before .before .before .before .before .before .before .before .before .before in
@@ -34,35 +31,27 @@ count-sizes-requires c κs =
     let f = c .before .before .before .before .find-leaders in
     (omega (arith, s, f .kept), leaders-below (k .last .1 .1 .1 .1 .1 .0) (k .last .1 .1 .1 .1 .1 .1 .0) (f .last .1 .1 .0) (length (k .last .1 .1 .1 .1 .1 .0)) (f .ensures))
 
--- src/columns.rt:198:5
 zeros-requires : tie.Need-zeros-requires
 zeros-requires c κs = search needs
 
--- src/columns.rt:175:1
 same-length : tie.Need-same-length
 same-length c = search needs
 
--- src/columns.rt:175:1
 same-length-2 : tie.Need-same-length-2
 same-length-2 c = search needs
 
--- src/columns.rt:175:1
 same-length-3 : tie.Need-same-length-3
 same-length-3 c = search needs
 
--- src/columns.rt:175:1
 same-length-4 : tie.Need-same-length-4
 same-length-4 c = search needs
 
--- src/columns.rt:175:1
 same-length-5 : tie.Need-same-length-5
 same-length-5 c = search needs
 
--- src/columns.rt:175:1
 same-length-6 : tie.Need-same-length-6
 same-length-6 c = search needs
 
--- src/columns.rt:175:1
 returns : tie.Need-returns
 returns c =
     let s = c .before .before .before .before .before .before .before .before .before .before .before .before .before .before .before .before .before .before .before .before .before .before .before .before .before .before .before .before .before .before .before .before .before .before in

@@ -7,7 +7,8 @@ use native.Mathlib.Omega.{arith}
 use lib.ListN.{length}
 use Rattle.indexing.specs.Upto.{anyTo}
 use Rattle.indexing.specs.Columns.{openMember}
-use Rattle.index_writer.proofs.Upto.{any-none, any-skip, any-at}
+use Rattle.indexing.proofs.BridgeLists.{any-hit}
+use Rattle.index_writer.proofs.Upto.{any-none, any-skip}
 use Rattle.index_writer.proofs.later_tables.any_open.Statement.{statement}
 use Rattle.index_writer.proofs.later_tables.any_open.Tie as tie
 
@@ -26,7 +27,7 @@ open-member-requires c κs = (omega arith, omega arith)
 returns : tie.Need-returns Inv-loop μ-loop
 returns c =
     let l = c .before .before .before in
-    sym (any-at _ _ (l .loop .j) (omega arith) (sym (c .before .open-member .ensures) ∙ c .if1 .taken))
+    sym (any-hit _ _ (l .loop .j) (omega arith) (sym (c .before .open-member .ensures) ∙ c .if1 .taken))
 
 add-j : tie.Need-add-j Inv-loop μ-loop
 add-j c = omega arith

@@ -14,8 +14,8 @@ use Rattle.indexing_builder.proofs.expansion.write_switch.Reads as writ
 use Rattle.index_writer.proofs.rooms.new_lines_room.Reads as new-lines-room-reads
 
 -- src/expansion.rt:127:13
-sub-d : tie.Need-sub-d
-sub-d c = search needs
+first-distance-requires : tie.Need-first-distance-requires
+first-distance-requires c κs = search needs
 
 -- src/expansion.rt:128:71
 cast-switch-room : tie.Need-cast-switch-room
@@ -28,8 +28,9 @@ switch-room-requires c κs = search needs
 -- src/expansion.rt:128:13
 sub-k : tie.Need-sub-k
 sub-k c =
-    let a = c .before .before .before .before .before .before .before .before .before .args in
-    omega (arith, c .switch-room .ensures .0, switch-some (a .leaders .now) (a .heads .now) (a .bits .now) (a .offs .now) (a .settings .dynamic) (a .a) (a .lines - a .l))
+    let d = c .before .first-distance in
+    let a = c .before .before .before .before .before .before .before .before .before .before .args in
+    omega (arith, c .switch-room .ensures .0, switch-some (a .leaders .now) (a .heads .now) (a .bits .now) (a .offs .now) (a .settings .dynamic) (a .a) (d .result))
 
 -- src/expansion.rt:129:16
 add-size : tie.Need-add-size
@@ -46,32 +47,34 @@ add-size-2 c = search needs
 -- src/expansion.rt:131:9
 returns : tie.Need-returns
 returns c =
-    let a = c .before .before .before .before .before .before .before .before .before .before .before .args in
+    let d = c .before .before .before .first-distance in
+    let a = c .before .before .before .before .before .before .before .before .before .before .before .before .args in
     let l = c .before .before .switch-room .ensures .0 in
     let k = c .before .new-lines-room .ensures .0 (a .offs .now) (a .tags .now) (a .lines) in
-    let m = switch-some (a .leaders .now) (a .heads .now) (a .bits .now) (a .offs .now) (a .settings .dynamic) (a .a) (a .lines - a .l) in
-    (answer-none (a .capacity) _ _ (omega (arith, l, k, m, c .if1)), refl)
+    let m = switch-some (a .leaders .now) (a .heads .now) (a .bits .now) (a .offs .now) (a .settings .dynamic) (a .a) (d .result) in
+    rw (← d .ensures) (answer-none (a .capacity) _ _ (omega (arith, l, k, m, c .if1)), refl)
 
 -- src/expansion.rt:133:5
 write-switch-requires : tie.Need-write-switch-requires
 write-switch-requires c κs =
-    let s = c .before .before .before .before .before .before .before .before .before .before .before .before in
+    let s = c .before .before .before .before .before .before .before .before .before .before .before .before .before in
+    let d = c .before .before .before .before .first-distance in
     let a = s .args in
     let l = c .before .before .before .switch-room .ensures .0 in
     let k = c .before .before .new-lines-room .ensures .0 (a .offs .now) (a .tags .now) (a .lines) in
-    let m = switch-some (a .leaders .now) (a .heads .now) (a .bits .now) (a .offs .now) (a .settings .dynamic) (a .a) (a .lines - a .l) in
+    let m = switch-some (a .leaders .now) (a .heads .now) (a .bits .now) (a .offs .now) (a .settings .dynamic) (a .a) (d .result) in
     (s .pre .0, (s .pre .1 .0, (omega (arith, s), (omega (arith, l, m), omega (arith, s, l, m, k, c .before .if1)))))
 
 -- src/expansion.rt:134:9
 count-new-lines-requires : tie.Need-count-new-lines-requires
 count-new-lines-requires c κs =
-    let s = c .before .before .before .before .before .before .before .before .before .before .before .before .before .before .before in
+    let s = c .before .before .before .before .before .before .before .before .before .before .before .before .before .before .before .before in
     (omega (arith, s), s .pre .1 .0)
 
 -- src/expansion.rt:137:16
 add-t28 : tie.Need-add-t28
 add-t28 c =
-    let s = c .before .before .before .before .before .before .before .before .before .before .before .before .before .before .before .before in
+    let s = c .before .before .before .before .before .before .before .before .before .before .before .before .before .before .before .before .before in
     omega (arith, s, c .count-new-lines)
 
 -- src/expansion.rt:102:1
@@ -81,13 +84,14 @@ same-length c = search needs
 -- src/expansion.rt:102:1
 returns-2 : tie.Need-returns-2
 returns-2 c =
-    let s = c .before .before .before .before .before .before .before .before .before .before .before .before .before .before .before .before in
+    let s = c .before .before .before .before .before .before .before .before .before .before .before .before .before .before .before .before .before in
+    let d = c .before .before .before .before .before .before .before .before .first-distance in
     let a = s .args in
     let l = c .before .before .before .before .before .before .before .switch-room .ensures .0 in
     let k = c .before .before .before .before .before .before .new-lines-room .ensures .0 (a .offs .now) (a .tags .now) (a .lines) in
-    let m = switch-some (a .leaders .now) (a .heads .now) (a .bits .now) (a .offs .now) (a .settings .dynamic) (a .a) (a .lines - a .l) in
+    let m = switch-some (a .leaders .now) (a .heads .now) (a .bits .now) (a .offs .now) (a .settings .dynamic) (a .a) (d .result) in
     let n = c .count-new-lines .ensures .0 in
-    (answer-stored (a .capacity) (a .n + (c .before .before .before .before .before .before .before .switch-room .result - 1) + c .before .before .before .before .before .before .new-lines-room .result) (a .lines + c .count-new-lines .result)
+    rw (← d .ensures) (answer-stored (a .capacity) (a .n + (c .before .before .before .before .before .before .before .switch-room .result - 1) + c .before .before .before .before .before .before .new-lines-room .result) (a .lines + c .count-new-lines .result)
       (omega (arith, l, m, k)) (ap (λ (x : ℕ). a .lines + x) n) (c .before .before .before .before .before .if1 .left),
     c .before .before .before .write-switch .ensures)
 
@@ -95,7 +99,7 @@ pub expand-switch-spec : {M : Type 1} → statement M
 expand-switch-spec =
     tie.close
     (tie.spec
-    sub-d
+    first-distance-requires
     cast-switch-room
     switch-room-requires
     sub-k

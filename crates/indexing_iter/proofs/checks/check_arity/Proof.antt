@@ -5,15 +5,12 @@ use Rattle.indexing_iter.proofs.checks.check_arity.Tie as tie
 use Rattle.indexing_iter.proofs.checks.check_arity.Reads as reads
 use Rattle.indexing_iter.proofs.checks.check_arity.Lts as lts
 
--- src/checks.rt:22:9
 returns : tie.Need-returns
 returns c = simp (lt-leb _ _ (c .if1 .taken))
 
--- src/checks.rt:25:9
 returns-2 : tie.Need-returns-2
 returns-2 c = simp (le-leb _ _ (c .before .if1 .left), lt-leb _ _ (c .if2 .taken))
 
--- src/checks.rt:18:1
 returns-3 : tie.Need-returns-3
 returns-3 c = simp (le-leb _ _ (c .before .if1 .left), le-leb _ _ (c .if2 .left))
 

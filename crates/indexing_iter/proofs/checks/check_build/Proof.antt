@@ -13,50 +13,41 @@ use Rattle.indexing_iter.proofs.checks.check_chosen.Reads as check-chos
 use Rattle.indexing_iter.proofs.checks.check_clauses_of.Reads as check-clauses-of-reads
 use Rattle.indexing_iter.proofs.checks.open_somewhere.Reads as open-somewhere-reads
 
--- src/checks.rt:288:9
 check-arity-requires : tie.Need-check-arity-requires
 check-arity-requires c κs = search needs
 
 enum-told : tie.Need-enum-told
 enum-told c = search needs
 
--- src/checks.rt:290:9
 enum-told-2 : tie.Need-enum-told-2
 enum-told-2 c = search needs
 
--- src/checks.rt:290:9
 returns : tie.Need-returns
 unfolding checkBuild
 returns c = rw (← c .before .before .check-arity .ensures, c .enum-told2 .given .1) refl
 
--- src/checks.rt:292:9
 check-chosen-requires : tie.Need-check-chosen-requires
 check-chosen-requires c κs = search needs
 
 enum-told-3 : tie.Need-enum-told-3
 enum-told-3 c = search needs
 
--- src/checks.rt:294:9
 enum-told-4 : tie.Need-enum-told-4
 enum-told-4 c = search needs
 
--- src/checks.rt:294:9
 returns-2 : tie.Need-returns-2
 unfolding checkBuild
 returns-2 c = rw (← c .before .before .before .before .before .check-arity .ensures, c .before .before .before .enum-told .given .1, ← c .before .before .check-chosen .ensures, c .enum-told4 .given .1) refl
 
--- src/checks.rt:296:9
 check-clauses-of-requires : tie.Need-check-clauses-of-requires
 check-clauses-of-requires c κs = search needs
 
 enum-told-5 : tie.Need-enum-told-5
 enum-told-5 c = search needs
 
--- src/checks.rt:298:9
 enum-told-6 : tie.Need-enum-told-6
 enum-told-6 c = search needs
 
--- src/checks.rt:298:9
 returns-3 : tie.Need-returns-3
 unfolding checkBuild
 returns-3 c =
@@ -69,7 +60,6 @@ returns-3 c =
       c .enum-told6 .given .1,
     ) refl
 
--- src/checks.rt:300:37
 cast-open-somewhere : tie.Need-cast-open-somewhere
 cast-open-somewhere c =
     let chosen = c .before .before .before .before .before in
@@ -78,12 +68,10 @@ cast-open-somewhere c =
     let low = chosen-passed (a .arity) (a .c) (sym (chosen .check-chosen .ensures) ∙ c .before .before .before .enum-told3 .given .1) in
     omega (arith, top .1, low .1)
 
--- src/checks.rt:300:8
 open-somewhere-requires : tie.Need-open-somewhere-requires
 open-somewhere-requires c κs =
     clauses-of-rising _ _ _ _ (sym (c .before .before .check-clauses-of .ensures) ∙ c .enum-told5 .given .1)
 
--- src/checks.rt:301:9
 returns-4 : tie.Need-returns-4
 unfolding checkBuild
 returns-4 c =
@@ -99,7 +87,6 @@ returns-4 c =
       c .if1 .taken,
     ) refl
 
--- src/checks.rt:285:1
 returns-5 : tie.Need-returns-5
 unfolding checkBuild
 returns-5 c =

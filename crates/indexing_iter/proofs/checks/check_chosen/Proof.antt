@@ -5,15 +5,12 @@ use Rattle.indexing_iter.proofs.checks.check_chosen.Tie as tie
 use Rattle.indexing_iter.proofs.checks.check_chosen.Reads as reads
 use Rattle.indexing_iter.proofs.checks.check_chosen.Lts as lts
 
--- src/checks.rt:35:9
 returns : tie.Need-returns
 returns c = simp (eq-eqb _ _ (c .if1 .taken))
 
--- src/checks.rt:38:9
 returns-2 : tie.Need-returns-2
 returns-2 c = simp (ne-eqb _ _ (c .before .if1 .left), lt-ltb _ _ (c .if2 .taken))
 
--- src/checks.rt:31:1
 returns-3 : tie.Need-returns-3
 returns-3 c = simp (ne-eqb _ _ (c .before .if1 .left), le-ltb _ _ (c .if2 .left))
 

@@ -9,20 +9,16 @@ use Rattle.indexing_iter.proofs.checks.check_clause.Lts as lts
 use Rattle.indexing_iter.proofs.checks.check_records.Reads as check-records-reads
 use Rattle.indexing_iter.proofs.checks.has_body.Reads as has-body-reads
 
--- src/checks.rt:203:8
 has-body-requires : tie.Need-has-body-requires
 has-body-requires c κs = search needs
 
--- src/checks.rt:204:9
 check-records-requires : tie.Need-check-records-requires
 check-records-requires c κs = search needs
 
--- src/checks.rt:204:9
 returns : tie.Need-returns
 unfolding checkClause
 returns c = rw (← c .before .before .has-body .ensures, c .before .if1 .taken) (c .check-records .ensures)
 
--- src/checks.rt:199:1
 returns-2 : tie.Need-returns-2
 unfolding checkClause
 returns-2 c = rw (← c .before .has-body .ensures, c .if1 .left) refl

@@ -37,31 +37,24 @@ turn c =
     rw (clauses-step rs _ _ _ _ (c .before .before .before .loop-test .taken) (at .before .capacity .ensures) (c .before .clause-end .ensures), ← c .check-clause .ensures)
     at (at .loop .inv)
 
--- src/checks.rt:226:9
 capacity-requires : tie.Need-capacity-requires Inv-loop μ-loop
 capacity-requires c κs = search needs
 
--- src/checks.rt:228:5
 loop-holds : tie.Need-loop-holds Inv-loop μ-loop
 loop-holds c = search needs
 
--- src/checks.rt:229:21
 mul-start : tie.Need-mul-start Inv-loop μ-loop
 mul-start c = search needs
 
--- src/checks.rt:229:21
 shared-slice-read-start : tie.Need-shared-slice-read-start Inv-loop μ-loop
 shared-slice-read-start c = search needs
 
--- src/checks.rt:229:21
 cast-start : tie.Need-cast-start Inv-loop μ-loop
 cast-start c = omega (arith, c .shared-slice-known3 .given (c .before .before .loop .i))
 
--- src/checks.rt:230:13
 clause-end-requires : tie.Need-clause-end-requires Inv-loop μ-loop
 clause-end-requires c κs = search needs
 
--- src/checks.rt:231:13
 check-clause-requires : tie.Need-check-clause-requires Inv-loop μ-loop
 check-clause-requires c κs =
     let at = c .before .before .before in
@@ -71,27 +64,21 @@ check-clause-requires c κs =
 enum-told : tie.Need-enum-told Inv-loop μ-loop
 enum-told c = search needs
 
--- src/checks.rt:233:13
 enum-told-2 : tie.Need-enum-told-2 Inv-loop μ-loop
 enum-told-2 c = search needs
 
--- src/checks.rt:233:13
 returns : tie.Need-returns Inv-loop μ-loop
 returns c = rw (c .enum-told2 .given .1) (rw (c .enum-told2 .given .1) at (turn (c .before .before)))
 
--- src/checks.rt:235:9
 add-i : tie.Need-add-i Inv-loop μ-loop
 add-i c = search needs
 
--- src/checks.rt:228:5
 loop-less : tie.Need-loop-less Inv-loop μ-loop
 loop-less c = search needs
 
--- src/checks.rt:228:5
 loop-again : tie.Need-loop-again Inv-loop μ-loop
 loop-again c = rw (c .enum-told .given .1) at (turn (c .before .before))
 
--- src/checks.rt:222:1
 returns-2 : tie.Need-returns-2 Inv-loop μ-loop
 unfolding checkClauses
 returns-2 c = rw (clauses-none (recordsOf (c .before .before .before .before .before .args .code .now)) _ _ (c .loop-test .left)) at (c .before .loop .inv)

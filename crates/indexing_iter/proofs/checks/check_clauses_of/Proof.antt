@@ -11,45 +11,37 @@ use Rattle.indexing_iter.proofs.checks.check_clauses.Reads as check-cla
 use Rattle.indexing_iter.proofs.checks.check_size.Reads as check-size-reads
 use Rattle.indexing_iter.proofs.checks.check_starts.Reads as check-starts-reads
 
--- src/checks.rt:262:9
 check-size-requires : tie.Need-check-size-requires
 check-size-requires c κs = search needs
 
 enum-told : tie.Need-enum-told
 enum-told c = search needs
 
--- src/checks.rt:264:9
 enum-told-2 : tie.Need-enum-told-2
 enum-told-2 c = search needs
 
--- src/checks.rt:264:9
 returns : tie.Need-returns
 unfolding checkClausesOf
 returns c = rw (← c .before .before .check-size .ensures, c .enum-told2 .given .1) refl
 
--- src/checks.rt:266:9
 check-starts-requires : tie.Need-check-starts-requires
 check-starts-requires c κs = search needs
 
 enum-told-3 : tie.Need-enum-told-3
 enum-told-3 c = search needs
 
--- src/checks.rt:268:9
 enum-told-4 : tie.Need-enum-told-4
 enum-told-4 c = search needs
 
--- src/checks.rt:268:9
 returns-2 : tie.Need-returns-2
 unfolding checkClausesOf
 returns-2 c = rw (← c .before .before .before .before .before .check-size .ensures, c .before .before .before .enum-told .given .1, ← c .before .before .check-starts .ensures, c .enum-told4 .given .1) refl
 
--- src/checks.rt:270:5
 check-clauses-requires : tie.Need-check-clauses-requires
 check-clauses-requires c κs =
     let a = c .before .before .before .before .before .before .before .before .args in
     rising-passed (a .code .now) (a .starts .now) (sym (c .before .before .check-starts .ensures) ∙ c .enum-told3 .given .1)
 
--- src/checks.rt:259:1
 returns-3 : tie.Need-returns-3
 unfolding checkClausesOf
 returns-3 c =

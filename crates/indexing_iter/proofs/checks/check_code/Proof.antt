@@ -9,27 +9,22 @@ use Rattle.indexing_iter.proofs.checks.check_code.Lts as lts
 use Rattle.indexing_iter.proofs.checks.check_arity.Reads as check-arity-reads
 use Rattle.indexing_iter.proofs.checks.check_clauses_of.Reads as check-clauses-of-reads
 
--- src/checks.rt:277:9
 check-arity-requires : tie.Need-check-arity-requires
 check-arity-requires c κs = search needs
 
 enum-told : tie.Need-enum-told
 enum-told c = search needs
 
--- src/checks.rt:279:9
 enum-told-2 : tie.Need-enum-told-2
 enum-told-2 c = search needs
 
--- src/checks.rt:279:9
 returns : tie.Need-returns
 unfolding checkCode
 returns c = rw (← c .before .before .check-arity .ensures, c .enum-told2 .given .1) refl
 
--- src/checks.rt:281:5
 check-clauses-of-requires : tie.Need-check-clauses-of-requires
 check-clauses-of-requires c κs = search needs
 
--- src/checks.rt:274:1
 returns-2 : tie.Need-returns-2
 unfolding checkCode
 returns-2 c = rw (← c .before .before .before .check-arity .ensures, c .before .enum-told .given .1) (c .check-clauses-of .ensures)

@@ -48,47 +48,36 @@ turn : (c : tie.After-instruction-arg Inv-loop μ-loop)
     ≡ checkRecords classOf (a .arity) (slice (a .start) (a .end) rs) 0
 turn c = rw (c .before .if1 .left, ← c .instruction-arg .ensures) at (bad (c .before .before))
 
--- src/checks.rt:174:5
 loop-holds : tie.Need-loop-holds Inv-loop μ-loop
 loop-holds c = search needs
 
--- src/checks.rt:175:13
 get-requires : tie.Need-get-requires Inv-loop μ-loop
 get-requires c κs = search needs
 
--- src/checks.rt:176:23
 class-of-requires : tie.Need-class-of-requires Inv-loop μ-loop
 class-of-requires c κs = search needs
 
--- src/checks.rt:176:12
 record-bad-requires : tie.Need-record-bad-requires Inv-loop μ-loop
 record-bad-requires c κs = search needs
 
--- src/checks.rt:177:13
 returns : tie.Need-returns Inv-loop μ-loop
 returns c = rw (c .if1 .taken) at (bad (c .before))
 
--- src/checks.rt:179:13
 instruction-arg-requires : tie.Need-instruction-arg-requires Inv-loop μ-loop
 instruction-arg-requires c κs = search needs
 
--- src/checks.rt:182:17
 enum-told : tie.Need-enum-told Inv-loop μ-loop
 enum-told c = search needs
 
--- src/checks.rt:182:17
 returns-2 : tie.Need-returns-2 Inv-loop μ-loop
 returns-2 c = rw (c .enum-told .given .1) at (turn (c .before .before))
 
--- src/checks.rt:184:39
 enum-known-a : tie.Need-enum-known-a Inv-loop μ-loop
 enum-known-a c = search needs
 
--- src/checks.rt:185:20
 register-bad-requires : tie.Need-register-bad-requires Inv-loop μ-loop
 register-bad-requires c κs = search needs
 
--- src/checks.rt:186:21
 returns-3 : tie.Need-returns-3 Inv-loop μ-loop
 returns-3 c = rw (c .before .before .before .a .given .1, ← c .before .register-bad .ensures, c .if2 .taken) at (turn (c .before .before .before .before .before))
 
@@ -98,22 +87,18 @@ enum-told-2 c = search needs
 enum-told-3 : tie.Need-enum-told-3 Inv-loop μ-loop
 enum-told-3 c = search needs
 
--- src/checks.rt:193:9
 add-i : tie.Need-add-i Inv-loop μ-loop
 add-i c = search needs
 
--- src/checks.rt:174:5
 loop-less : tie.Need-loop-less Inv-loop μ-loop
 loop-less c = search needs
 
--- src/checks.rt:174:5
 loop-again : tie.Need-loop-again Inv-loop μ-loop
 loop-again c =
     ⊎-elim (λ w. rw (w .5) (rw (w .1 .given .1, ← w .3 .ensures, w .4 .left) at (turn (c .before))))
     (⊎-elim (λ w. rw (w .2) (rw (w .1 .given .1) at (turn (c .before)))) (λ w. rw (w .2) (rw (w .1 .given .1) at (turn (c .before)))))
     (c .match .came)
 
--- src/checks.rt:168:1
 returns-4 : tie.Need-returns-4 Inv-loop μ-loop
 returns-4 c = rw (checked-none _ _ _ _ _ _ (c .loop-test .left)) at (c .before .loop .inv)
 

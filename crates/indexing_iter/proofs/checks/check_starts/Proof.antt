@@ -7,23 +7,18 @@ use Rattle.indexing_iter.proofs.checks.check_starts.Reads as reads
 use Rattle.indexing_iter.proofs.checks.check_starts.Lts as lts
 use Rattle.indexing_iter.proofs.checks.rising_below.Reads as rising-below-reads
 
--- src/checks.rt:78:9
 returns : tie.Need-returns
 returns c = simp (lt-leb _ _ (c .if1 .taken))
 
--- src/checks.rt:81:9
 returns-2 : tie.Need-returns-2
 returns-2 c = simp (le-leb _ _ (c .before .if1 .left), lt-leb _ _ (c .if2 .taken))
 
--- src/checks.rt:83:8
 rising-below-requires : tie.Need-rising-below-requires
 rising-below-requires c κs = search needs
 
--- src/checks.rt:84:9
 returns-3 : tie.Need-returns-3
 returns-3 c = simp (le-leb _ _ (c .before .before .before .if1 .left), le-leb _ _ (c .before .before .if2 .left), ← c .before .rising-below .ensures, c .if3 .taken)
 
--- src/checks.rt:74:1
 returns-4 : tie.Need-returns-4
 returns-4 c = simp (le-leb _ _ (c .before .before .before .if1 .left), le-leb _ _ (c .before .before .if2 .left), ← c .before .rising-below .ensures, c .if3 .left)
 

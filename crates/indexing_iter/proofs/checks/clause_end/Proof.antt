@@ -8,27 +8,21 @@ use Rattle.indexing_iter.proofs.checks.clause_end.Tie as tie
 use Rattle.indexing_iter.proofs.checks.clause_end.Reads as reads
 use Rattle.indexing_iter.proofs.checks.clause_end.Lts as lts
 
--- src/checks.rt:214:16
 add-next : tie.Need-add-next
 add-next c = search needs
 
--- src/checks.rt:216:16
 mul-result : tie.Need-mul-result
 mul-result c = search needs
 
--- src/checks.rt:216:16
 shared-slice-read-result : tie.Need-shared-slice-read-result
 shared-slice-read-result c = search needs
 
--- src/checks.rt:216:16
 cast-result : tie.Need-cast-result
 cast-result c = omega (arith, c .shared-slice-known .given (c .before .before .args .i + 1))
 
--- src/checks.rt:216:9
 returns : tie.Need-returns
 returns c = end-next _ _ _ (c .before .if1 .taken)
 
--- src/checks.rt:210:1
 returns-2 : tie.Need-returns-2
 returns-2 c = end-last _ _ _ (c .if1 .left)
 

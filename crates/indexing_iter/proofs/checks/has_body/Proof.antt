@@ -21,7 +21,6 @@ Inv-loop code start end i₀ i = hasBody classOf (slice i end (recordsOf code)) 
 abbrev μ-loop : tie.MeasureT-loop
 μ-loop code start end i₀ i = end - i
 
--- src/checks.rt:106:5
 -- in a turn: whether the record at i is a body record, and whether one after it is
 turn : (c : tie.After-is-body Inv-loop μ-loop)
     → let a = c .before .before .before .before .before .args in
@@ -35,31 +34,24 @@ turn c =
 loop-holds : tie.Need-loop-holds Inv-loop μ-loop
 loop-holds c = search needs
 
--- src/checks.rt:107:20
 extract-index-arg-requires : tie.Need-extract-index-arg-requires Inv-loop μ-loop
 extract-index-arg-requires c κs = search needs
 
--- src/checks.rt:107:12
 is-body-requires : tie.Need-is-body-requires Inv-loop μ-loop
 is-body-requires c κs = search needs
 
--- src/checks.rt:108:13
 returns : tie.Need-returns Inv-loop μ-loop
 returns c = rw (c .if1 .taken) at (turn (c .before))
 
--- src/checks.rt:110:9
 add-i : tie.Need-add-i Inv-loop μ-loop
 add-i c = search needs
 
--- src/checks.rt:106:5
 loop-less : tie.Need-loop-less Inv-loop μ-loop
 loop-less c = search needs
 
--- src/checks.rt:106:5
 loop-again : tie.Need-loop-again Inv-loop μ-loop
 loop-again c = rw (c .if1 .left) at (turn (c .before))
 
--- src/checks.rt:101:1
 returns-2 : tie.Need-returns-2 Inv-loop μ-loop
 returns-2 c = rw (body-none _ _ _ _ (c .loop-test .left)) at (c .before .loop .inv)
 

@@ -5,23 +5,18 @@ use Rattle.indexing_iter.proofs.checks.key_fields_ok.Tie as tie
 use Rattle.indexing_iter.proofs.checks.key_fields_ok.Reads as reads
 use Rattle.indexing_iter.proofs.checks.key_fields_ok.Lts as lts
 
--- src/checks.rt:121:13
 returns : tie.Need-returns
 returns c = simp (eq-eqb _ _ (c .before .if1 .taken), lt-leb _ _ (c .if2 .taken))
 
--- src/checks.rt:123:9
 returns-2 : tie.Need-returns-2
 returns-2 c = simp (eq-eqb _ _ (c .before .if1 .taken), le-leb _ _ (c .if2 .left))
 
--- src/checks.rt:127:13
 returns-3 : tie.Need-returns-3
 returns-3 c = simp (ne-eqb _ _ (c .before .before .if1 .left), eq-eqb _ _ (c .before .if3 .taken), lt-leb _ _ (c .if4 .taken))
 
--- src/checks.rt:129:9
 returns-4 : tie.Need-returns-4
 returns-4 c = simp (ne-eqb _ _ (c .before .before .if1 .left), eq-eqb _ _ (c .before .if3 .taken), le-leb _ _ (c .if4 .left))
 
--- src/checks.rt:115:1
 returns-5 : tie.Need-returns-5
 returns-5 c = simp (ne-eqb _ _ (c .before .if1 .left), ne-eqb _ _ (c .if3 .left))
 

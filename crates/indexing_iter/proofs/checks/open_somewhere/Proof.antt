@@ -39,58 +39,45 @@ turn c =
     let one = clauses-step rs _ _ _ _ (c .before .before .before .before .loop-test .taken) (at .before .capacity .ensures) (c .before .before .clause-end .ensures) in
     rw (one, ← c .before .key-in .ensures, ← c .is-open .ensures) at (at .loop .inv)
 
--- src/checks.rt:245:9
 capacity-requires : tie.Need-capacity-requires Inv-loop μ-loop
 capacity-requires c κs = search needs
 
--- src/checks.rt:247:5
 loop-holds : tie.Need-loop-holds Inv-loop μ-loop
 loop-holds c = search needs
 
--- src/checks.rt:248:21
 mul-start : tie.Need-mul-start Inv-loop μ-loop
 mul-start c = search needs
 
--- src/checks.rt:248:21
 shared-slice-read-start : tie.Need-shared-slice-read-start Inv-loop μ-loop
 shared-slice-read-start c = search needs
 
--- src/checks.rt:248:21
 cast-start : tie.Need-cast-start Inv-loop μ-loop
 cast-start c = omega (arith, c .shared-slice-known3 .given (c .before .before .loop .i))
 
--- src/checks.rt:249:13
 clause-end-requires : tie.Need-clause-end-requires Inv-loop μ-loop
 clause-end-requires c κs = search needs
 
--- src/checks.rt:250:27
 key-in-requires : tie.Need-key-in-requires Inv-loop μ-loop
 key-in-requires c κs =
     let at = c .before .before .before in
     let a = at .before .before .before .before .args in
     end-within (length (recordsOf (a .code .now))) _ (a .starts .now) (at .loop .i + 1) _ (search needs) (at .before .capacity .ensures) (c .clause-end .ensures)
 
--- src/checks.rt:250:12
 is-open-requires : tie.Need-is-open-requires Inv-loop μ-loop
 is-open-requires c κs = search needs
 
--- src/checks.rt:251:13
 returns : tie.Need-returns Inv-loop μ-loop
 returns c = rw (c .if1 .taken) at (turn (c .before))
 
--- src/checks.rt:253:9
 add-i : tie.Need-add-i Inv-loop μ-loop
 add-i c = search needs
 
--- src/checks.rt:247:5
 loop-less : tie.Need-loop-less Inv-loop μ-loop
 loop-less c = search needs
 
--- src/checks.rt:247:5
 loop-again : tie.Need-loop-again Inv-loop μ-loop
 loop-again c = rw (c .if1 .left) at (turn (c .before))
 
--- src/checks.rt:241:1
 returns-2 : tie.Need-returns-2 Inv-loop μ-loop
 unfolding openSomewhere
 returns-2 c = rw (clauses-none (recordsOf (c .before .before .before .before .before .args .code .now)) _ _ (c .loop-test .left)) at (c .before .loop .inv)

@@ -28,63 +28,48 @@ step : (c : tie.In-loop Inv-loop μ-loop)
     ≡ (ltb (getD (a .starts .now) i 0) (getD (a .starts .now) (i + 1) 0) && risingBelow (a .n) (drop (i + 1) (a .starts .now)))
 step c = let a = c .before .before .args in rising-step (a .n) (a .starts .now) (c .before .loop .i) (omega arith)
 
--- src/checks.rt:62:16
 sub-last : tie.Need-sub-last Inv-loop μ-loop
 sub-last c = search needs
 
--- src/checks.rt:64:5
 loop-holds : tie.Need-loop-holds Inv-loop μ-loop
 loop-holds c = search needs
 
--- src/checks.rt:65:19
 add-if1 : tie.Need-add-if1 Inv-loop μ-loop
 add-if1 c = search needs
 
--- src/checks.rt:65:12
 mul-if1 : tie.Need-mul-if1 Inv-loop μ-loop
 mul-if1 c = search needs
 
--- src/checks.rt:65:12
 shared-slice-read-if1 : tie.Need-shared-slice-read-if1 Inv-loop μ-loop
 shared-slice-read-if1 c = search needs
 
--- src/checks.rt:65:29
 mul-if1-2 : tie.Need-mul-if1-2 Inv-loop μ-loop
 mul-if1-2 c = search needs
 
--- src/checks.rt:65:29
 shared-slice-read-if1-2 : tie.Need-shared-slice-read-if1-2 Inv-loop μ-loop
 shared-slice-read-if1-2 c = search needs
 
--- src/checks.rt:66:13
 returns : tie.Need-returns Inv-loop μ-loop
 returns c = rw (step (c .before .before .before), le-ltb _ _ (c .if1 .taken)) at (c .before .before .before .before .loop .inv .1)
 
--- src/checks.rt:68:9
 add-i : tie.Need-add-i Inv-loop μ-loop
 add-i c = search needs
 
--- src/checks.rt:64:5
 loop-less : tie.Need-loop-less Inv-loop μ-loop
 loop-less c = search needs
 
--- src/checks.rt:64:5
 loop-again : tie.Need-loop-again Inv-loop μ-loop
 loop-again c = (search needs, rw (step (c .before .before .before), lt-ltb _ _ (c .if1 .left)) at (c .before .before .before .before .loop .inv .1))
 
--- src/checks.rt:70:6
 mul-result : tie.Need-mul-result Inv-loop μ-loop
 mul-result c = search needs
 
--- src/checks.rt:70:6
 shared-slice-read-result : tie.Need-shared-slice-read-result Inv-loop μ-loop
 shared-slice-read-result c = search needs
 
--- src/checks.rt:70:6
 cast-result : tie.Need-cast-result Inv-loop μ-loop
 cast-result c = omega (arith, c .shared-slice-known3 .given (length (c .before .before .before .args .starts .now) - 1))
 
--- src/checks.rt:58:1
 returns-2 : tie.Need-returns-2 Inv-loop μ-loop
 returns-2 c =
     let a = c .before .before .before .args in

@@ -7,38 +7,32 @@ use Rattle.indexing_scan.proofs.calls.argument_ok.Tie as tie
 use Rattle.indexing_scan.proofs.calls.argument_ok.Reads as reads
 use Rattle.indexing_scan.proofs.calls.argument_ok.Lts as lts
 
--- src/calls.rt:23:9
 returns : tie.Need-returns
 unfolding argumentOk
 returns c = simp (ne-eqb _ _ (c .if1 .taken))
 
--- src/calls.rt:26:9
 returns-2 : tie.Need-returns-2
 unfolding argumentOk
 returns-2 c = simp (ne-eqb _ _ (c .if2 .taken), eq-eqb _ _ (c .before .if1 .left))
 
--- src/calls.rt:30:13
 returns-3 : tie.Need-returns-3
 unfolding argumentOk
 returns-3 c =
     simp (ne-eqb _ _ (c .if4 .taken), eq-eqb _ _ (c .before .if3 .taken), eq-eqb _ _ (c .before .before .if2 .left),
       eq-eqb _ _ (c .before .before .before .if1 .left))
 
--- src/calls.rt:32:9
 returns-4 : tie.Need-returns-4
 unfolding argumentOk
 returns-4 c =
     simp (eq-eqb _ _ (c .if4 .left), eq-eqb _ _ (c .before .if3 .taken), eq-eqb _ _ (c .before .before .if2 .left),
       eq-eqb _ _ (c .before .before .before .if1 .left))
 
--- src/calls.rt:35:9
 returns-5 : tie.Need-returns-5
 unfolding argumentOk
 returns-5 c =
     simp (le-leb _ _ (c .if5 .taken), ne-eqb _ _ (c .before .if3 .left), eq-eqb _ _ (c .before .before .if2 .left),
       eq-eqb _ _ (c .before .before .before .if1 .left))
 
--- src/calls.rt:39:13
 returns-6 : tie.Need-returns-6
 unfolding argumentOk
 returns-6 c =
@@ -46,7 +40,6 @@ returns-6 c =
       ne-eqb _ _ (c .before .before .before .if3 .left), eq-eqb _ _ (c .before .before .before .before .if2 .left),
       eq-eqb _ _ (c .before .before .before .before .before .if1 .left))
 
--- src/calls.rt:41:9
 returns-7 : tie.Need-returns-7
 unfolding argumentOk
 returns-7 c =
@@ -54,7 +47,6 @@ returns-7 c =
       ne-eqb _ _ (c .before .before .before .if3 .left), eq-eqb _ _ (c .before .before .before .before .if2 .left),
       eq-eqb _ _ (c .before .before .before .before .before .if1 .left))
 
--- src/calls.rt:44:9
 returns-8 : tie.Need-returns-8
 unfolding argumentOk
 returns-8 c =
@@ -62,7 +54,6 @@ returns-8 c =
       ne-eqb _ _ (c .before .before .before .if3 .left), eq-eqb _ _ (c .before .before .before .before .if2 .left),
       eq-eqb _ _ (c .before .before .before .before .before .if1 .left))
 
--- src/calls.rt:47:9
 returns-9 : tie.Need-returns-9
 unfolding argumentOk
 returns-9 c =
@@ -70,7 +61,6 @@ returns-9 c =
       lt-leb _ _ (c .before .before .before .if5 .left), ne-eqb _ _ (c .before .before .before .before .if3 .left),
       eq-eqb _ _ (c .before .before .before .before .before .if2 .left), eq-eqb _ _ (c .before .before .before .before .before .before .if1 .left))
 
--- src/calls.rt:16:1
 returns-10 : tie.Need-returns-10
 unfolding argumentOk
 returns-10 c =

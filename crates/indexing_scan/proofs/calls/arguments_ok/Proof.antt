@@ -32,39 +32,30 @@ turn c =
     let one = every-step argumentOk rs (at .loop .i) none (search needs) in
     rw (one, ← c .before .get .ensures, ← c .argument-ok .ensures) at (at .loop .inv .1)
 
--- src/calls.rt:56:9
 capacity-requires : tie.Need-capacity-requires Inv-loop μ-loop
 capacity-requires c κs = search needs
 
--- src/calls.rt:58:5
 loop-holds : tie.Need-loop-holds Inv-loop μ-loop
 loop-holds c = search needs
 
--- src/calls.rt:59:13
 get-requires : tie.Need-get-requires Inv-loop μ-loop
 get-requires c κs = search needs
 
--- src/calls.rt:60:13
 argument-ok-requires : tie.Need-argument-ok-requires Inv-loop μ-loop
 argument-ok-requires c κs = search needs
 
--- src/calls.rt:61:13
 returns : tie.Need-returns Inv-loop μ-loop
 returns c = rw (not-true (c .before .argument-ok .result) (c .if1 .taken)) at (turn (c .before))
 
--- src/calls.rt:63:9
 add-i : tie.Need-add-i Inv-loop μ-loop
 add-i c = search needs
 
--- src/calls.rt:58:5
 loop-less : tie.Need-loop-less Inv-loop μ-loop
 loop-less c = search needs
 
--- src/calls.rt:58:5
 loop-again : tie.Need-loop-again Inv-loop μ-loop
 loop-again c = (search needs, rw (not-false (c .before .argument-ok .result) (c .if1 .left)) at (turn (c .before)))
 
--- src/calls.rt:53:1
 returns-2 : tie.Need-returns-2 Inv-loop μ-loop
 returns-2 c =
     let rs = recordsOf (c .before .before .before .before .args .call .now) in

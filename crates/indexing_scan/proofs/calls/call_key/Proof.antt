@@ -7,23 +7,18 @@ use Rattle.indexing_scan.proofs.calls.call_key.Lts as lts
 use Rattle.indexing_scan.proofs.calls.key_from.Reads as key-from-reads
 use Rattle.records.proofs.get.Reads as get-reads
 
--- src/calls.rt:112:33
 sub-get : tie.Need-sub-get
 sub-get c = search needs
 
--- src/calls.rt:112:32
 cast-get : tie.Need-cast-get
 cast-get c = search needs
 
--- src/calls.rt:112:9
 get-requires : tie.Need-get-requires
 get-requires c κs = search needs
 
--- src/calls.rt:113:5
 key-from-requires : tie.Need-key-from-requires
 key-from-requires c κs = search needs
 
--- src/calls.rt:108:1
 returns : tie.Need-returns
 unfolding callOf
 returns c = rw (← c .before .get .ensures) (c .key-from .ensures)

@@ -7,23 +7,18 @@ use Rattle.indexing_scan.proofs.calls.check_call.Reads as reads
 use Rattle.indexing_scan.proofs.calls.check_call.Lts as lts
 use Rattle.indexing_scan.proofs.calls.arguments_ok.Reads as arguments-ok-reads
 
--- src/calls.rt:74:22
 mul-if1 : tie.Need-mul-if1
 mul-if1 c = search needs
 
--- src/calls.rt:75:9
 returns : tie.Need-returns
 returns c = rw (ne-eqb _ _ (c .if1 .taken)) refl
 
--- src/calls.rt:77:8
 arguments-ok-requires : tie.Need-arguments-ok-requires
 arguments-ok-requires c κs = search needs
 
--- src/calls.rt:78:9
 returns-2 : tie.Need-returns-2
 returns-2 c = rw (eq-eqb _ _ (c .before .before .if1 .left), ← c .before .arguments-ok .ensures, c .if2 .taken) refl
 
--- src/calls.rt:71:1
 returns-3 : tie.Need-returns-3
 returns-3 c = rw (eq-eqb _ _ (c .before .before .if1 .left), ← c .before .arguments-ok .ensures, c .if2 .left) refl
 

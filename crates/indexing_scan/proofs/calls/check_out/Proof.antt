@@ -6,11 +6,9 @@ use Rattle.indexing_scan.proofs.calls.check_out.Tie as tie
 use Rattle.indexing_scan.proofs.calls.check_out.Reads as reads
 use Rattle.indexing_scan.proofs.calls.check_out.Lts as lts
 
--- src/calls.rt:86:9
 returns : tie.Need-returns
 returns c = rw (lt-ltb _ _ (c .if1 .taken)) refl
 
--- src/calls.rt:82:1
 returns-2 : tie.Need-returns-2
 returns-2 c = rw (le-ltb _ _ (c .if1 .left)) refl
 

@@ -13,15 +13,12 @@ use Rattle.indexing_scan.proofs.stored.find_equal.Reads as find-equal-r
 use Rattle.indexing_scan.proofs.stored.find_group.Reads as find-group-reads
 use Rattle.records.proofs.get.Reads as get-reads
 
--- src/stored.rt:258:9
 group-of-requires : tie.Need-group-of-requires
 group-of-requires c κs = search needs
 
--- src/stored.rt:259:9
 count-group-requires : tie.Need-count-group-requires
 count-group-requires c κs = search needs
 
--- src/stored.rt:261:9
 returns : tie.Need-returns
 returns c =
     let s = c .before .before .before .before in
@@ -31,11 +28,9 @@ returns c =
     ends-none (a .q) (recordsOf (a .index .now)) (a .from) (a .to) (g .result) (n .result) (s .pre .0) (s .pre .1) (g .ensures) (n .ensures)
     (c .if1 .taken)
 
--- src/stored.rt:264:40
 find-group-requires : tie.Need-find-group-requires
 find-group-requires c κs = search needs
 
--- src/stored.rt:264:13
 get-requires : tie.Need-get-requires
 get-requires c κs =
     let s = c .before .before .before .before .before .before in
@@ -46,7 +41,6 @@ get-requires c κs =
     (c .before .if2 .taken) (c .find-group .result) (c .find-group .ensures .0) in
     omega (arith, w)
 
--- src/stored.rt:265:9
 returns-2 : tie.Need-returns-2
 returns-2 c =
     let s = c .before .before .before .before .before .before .before in
@@ -56,11 +50,9 @@ returns-2 c =
     ends-only (a .q) (recordsOf (a .index .now)) (a .from) (a .to) (g .result) (n .result) (s .pre .0) (s .pre .1) (g .ensures) (n .ensures)
     (c .before .before .if2 .taken) (c .before .find-group .result) (c .before .find-group .ensures .0) (c .get .result) (c .get .ensures)
 
--- src/stored.rt:267:9
 find-equal-requires : tie.Need-find-equal-requires
 find-equal-requires c κs = search needs
 
--- src/stored.rt:269:9
 returns-3 : tie.Need-returns-3
 returns-3 c =
     let s = c .before .before .before .before .before .before .before in
@@ -71,11 +63,9 @@ returns-3 c =
     (c .before .before .before .if1 .left) (c .before .before .if2 .left)
     (c .before .find-equal .result) (c .before .find-equal .ensures .0) (c .if3 .taken)
 
--- src/stored.rt:271:9
 get-requires-2 : tie.Need-get-requires-2
 get-requires-2 c κs = search needs
 
--- src/stored.rt:254:1
 returns-4 : tie.Need-returns-4
 returns-4 c =
     let s = c .before .before .before .before .before .before .before .before in

@@ -20,37 +20,29 @@ Inv-loop index q k out₀ i₀ out i = (i ≤ k) × (length out ≡ length out�
 abbrev μ-loop : tie.MeasureT-loop
 μ-loop index q k out₀ i₀ out i = k - i
 
--- src/stored.rt:150:5
 loop-holds : tie.Need-loop-holds Inv-loop μ-loop
 loop-holds c =
     let a = c .before .before .args in
     (omega arith, refl, copied-start (recordsOf (a .index .now)) (a .q) (a .out .now))
 
--- src/stored.rt:151:37
 add-get : tie.Need-add-get Inv-loop μ-loop
 add-get c = omega (arith, length-recordsOf (c .before .before .before .before .args .index .now))
 
--- src/stored.rt:151:13
 get-requires : tie.Need-get-requires Inv-loop μ-loop
 get-requires c κs = omega arith
 
--- src/stored.rt:152:9
 mul-out : tie.Need-mul-out Inv-loop μ-loop
 mul-out c = search needs
 
--- src/stored.rt:152:9
 slice-write-out : tie.Need-slice-write-out Inv-loop μ-loop
 slice-write-out c = search needs
 
--- src/stored.rt:153:9
 add-i : tie.Need-add-i Inv-loop μ-loop
 add-i c = omega arith
 
--- src/stored.rt:150:5
 loop-less : tie.Need-loop-less Inv-loop μ-loop
 loop-less c = omega arith
 
--- src/stored.rt:150:5
 loop-again : tie.Need-loop-again Inv-loop μ-loop
 loop-again c =
     let a = c .before .before .before .before .before .args in
@@ -62,11 +54,9 @@ loop-again c =
           ∙ copied-more (recordsOf (a .index .now)) (a .q) (a .out .now) (l .i) (c .get .result) (omega arith) (omega arith) (c .get .ensures),
     )
 
--- src/stored.rt:145:1
 same-length : tie.Need-same-length Inv-loop μ-loop
 same-length c = c .before .loop .inv .1
 
--- src/stored.rt:145:1
 returns : tie.Need-returns Inv-loop μ-loop
 returns c =
     let a = c .before .before .before .before .args in

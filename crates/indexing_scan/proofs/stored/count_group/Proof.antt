@@ -24,31 +24,24 @@ Inv-loop index from to g i₀ count₀ i count =
 abbrev μ-loop : tie.MeasureT-loop
 μ-loop index from to g i₀ count₀ i count = to - i
 
--- src/stored.rt:209:5
 loop-holds : tie.Need-loop-holds Inv-loop μ-loop
 loop-holds c = (omega arith, omega arith, omega arith, omega arith)
 
--- src/stored.rt:210:21
 get-requires : tie.Need-get-requires Inv-loop μ-loop
 get-requires c κs = omega arith
 
--- src/stored.rt:210:12
 in-group-requires : tie.Need-in-group-requires Inv-loop μ-loop
 in-group-requires c κs = search needs
 
--- src/stored.rt:211:13
 add-count : tie.Need-add-count Inv-loop μ-loop
 add-count c = omega arith
 
--- src/stored.rt:213:9
 add-i : tie.Need-add-i Inv-loop μ-loop
 add-i c = omega arith
 
--- src/stored.rt:209:5
 loop-less : tie.Need-loop-less Inv-loop μ-loop
 loop-less c = omega arith
 
--- src/stored.rt:209:5
 loop-again : tie.Need-loop-again Inv-loop μ-loop
 loop-again c =
     let s = c .before .before .before .before .before .before in
@@ -62,7 +55,6 @@ loop-again c =
     (λ w. let v = u false (e ∙ w .0 .left) in (omega arith, omega arith, omega (arith, w .1), omega (arith, v, w .1)))
     (c .if1 .came)
 
--- src/stored.rt:203:1
 returns : tie.Need-returns Inv-loop μ-loop
 returns c =
     let a = c .before .before .before .args in

@@ -8,15 +8,12 @@ use Rattle.indexing_scan.proofs.stored.count_offsets.Reads as reads
 use Rattle.indexing_scan.proofs.stored.count_offsets.Lts as lts
 use Rattle.indexing_scan.proofs.stored.run_end.Reads as run-end-reads
 
--- src/stored.rt:121:5
 run-end-requires : tie.Need-run-end-requires
 run-end-requires c κs = search needs
 
--- src/stored.rt:121:5
 sub-result : tie.Need-sub-result
 sub-result c = search needs
 
--- src/stored.rt:117:1
 returns : tie.Need-returns
 unfolding offsetsAt
 returns c = (omega arith, omega arith)

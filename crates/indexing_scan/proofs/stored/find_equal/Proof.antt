@@ -23,27 +23,21 @@ Inv-loop index from to q at₀ at =
 abbrev μ-loop : tie.MeasureT-loop
 μ-loop index from to q at₀ at = to - at
 
--- src/stored.rt:241:5
 loop-holds : tie.Need-loop-holds Inv-loop μ-loop
 loop-holds c = (omega arith, omega arith, refl)
 
--- src/stored.rt:245:20
 get-requires : tie.Need-get-requires Inv-loop μ-loop
 get-requires c κs = omega arith
 
--- src/stored.rt:245:12
 has-key-requires : tie.Need-has-key-requires Inv-loop μ-loop
 has-key-requires c κs = search needs
 
--- src/stored.rt:248:9
 add-at : tie.Need-add-at Inv-loop μ-loop
 add-at c = omega arith
 
--- src/stored.rt:241:5
 loop-less : tie.Need-loop-less Inv-loop μ-loop
 loop-less c = omega arith
 
--- src/stored.rt:241:5
 loop-again : tie.Need-loop-again Inv-loop μ-loop
 loop-again c =
     let s = c .before .before .before .before .before .before in
@@ -53,14 +47,12 @@ loop-again c =
     (r .ensures) (hasKey (a .q)) false (sym (c .before .has-key .ensures) ∙ c .if2 .left) in
     (omega arith, omega arith, omega arith)
 
--- src/stored.rt:236:1
 returns : tie.Need-returns Inv-loop μ-loop
 returns c =
     let a = c .before .before .before .args in
     let u = upto-end (hasKey (a .q)) (recordsOf (a .index .now)) (c .before .loop .at) (a .to) (omega arith) in
     (omega arith, omega arith)
 
--- src/stored.rt:236:1
 returns-2 : tie.Need-returns-2 Inv-loop μ-loop
 returns-2 c =
     let s = c .before .before .before .before .before .before in

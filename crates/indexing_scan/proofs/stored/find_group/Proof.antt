@@ -23,27 +23,21 @@ Inv-loop index from to g i₀ i =
 abbrev μ-loop : tie.MeasureT-loop
 μ-loop index from to g i₀ i = to - i
 
--- src/stored.rt:224:5
 loop-holds : tie.Need-loop-holds Inv-loop μ-loop
 loop-holds c = (omega arith, omega arith, refl)
 
--- src/stored.rt:228:21
 get-requires : tie.Need-get-requires Inv-loop μ-loop
 get-requires c κs = omega arith
 
--- src/stored.rt:228:12
 in-group-requires : tie.Need-in-group-requires Inv-loop μ-loop
 in-group-requires c κs = search needs
 
--- src/stored.rt:231:9
 add-i : tie.Need-add-i Inv-loop μ-loop
 add-i c = omega arith
 
--- src/stored.rt:224:5
 loop-less : tie.Need-loop-less Inv-loop μ-loop
 loop-less c = omega arith
 
--- src/stored.rt:224:5
 loop-again : tie.Need-loop-again Inv-loop μ-loop
 loop-again c =
     let s = c .before .before .before .before .before .before in
@@ -53,14 +47,12 @@ loop-again c =
     (r .ensures) (inGroup (a .g)) false (sym (c .before .in-group .ensures) ∙ c .if2 .left) in
     (omega arith, omega arith, omega arith)
 
--- src/stored.rt:219:1
 returns : tie.Need-returns Inv-loop μ-loop
 returns c =
     let a = c .before .before .before .args in
     let u = upto-end (inGroup (a .g)) (recordsOf (a .index .now)) (c .before .loop .i) (a .to) (omega arith) in
     (omega arith, omega arith)
 
--- src/stored.rt:219:1
 returns-2 : tie.Need-returns-2 Inv-loop μ-loop
 returns-2 c =
     let s = c .before .before .before .before .before .before in

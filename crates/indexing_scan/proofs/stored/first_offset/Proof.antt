@@ -7,11 +7,9 @@ use Rattle.indexing_scan.proofs.stored.first_offset.Reads as reads
 use Rattle.indexing_scan.proofs.stored.first_offset.Lts as lts
 use Rattle.indexing_scan.proofs.stored.run_end.Reads as run-end-reads
 
--- src/stored.rt:113:5
 run-end-requires : tie.Need-run-end-requires
 run-end-requires c κs = search needs
 
--- src/stored.rt:109:1
 returns : tie.Need-returns
 unfolding firstOffset
 returns c = c .run-end .ensures

@@ -8,43 +8,33 @@ use Rattle.indexing_scan.proofs.stored.in_run.Lts as lts
 use Rattle.indexing_scan.proofs.stored.is_item.Reads as is-item-reads
 use Rattle.indexing_scan.proofs.stored.is_table.Reads as is-table-reads
 
--- src/stored.rt:73:23
 enum-told : tie.Need-enum-told
 enum-told c = search needs
 
--- src/stored.rt:73:23
 is-item-requires : tie.Need-is-item-requires
 is-item-requires c κs = search needs
 
--- src/stored.rt:74:24
 enum-told-2 : tie.Need-enum-told-2
 enum-told-2 c = search needs
 
--- src/stored.rt:74:24
 is-table-requires : tie.Need-is-table-requires
 is-table-requires c κs = search needs
 
--- src/stored.rt:74:42
 is-item-requires-2 : tie.Need-is-item-requires-2
 is-item-requires-2 c κs = search needs
 
--- src/stored.rt:75:25
 enum-told-3 : tie.Need-enum-told-3
 enum-told-3 c = search needs
 
--- src/stored.rt:69:1
 returns : tie.Need-returns
 returns c = rw (c .before .enum-told .given .1) (c .is-item .ensures)
 
--- src/stored.rt:69:1
 returns-2 : tie.Need-returns-2
 returns-2 c = rw (c .before .before .enum-told2 .given .1, ← c .before .is-table .ensures, c .if1 .taken) refl
 
--- src/stored.rt:69:1
 returns-3 : tie.Need-returns-3
 returns-3 c = rw (c .before .before .before .enum-told2 .given .1, ← c .before .before .is-table .ensures, c .before .if1 .left) (c .is-item2 .ensures)
 
--- src/stored.rt:69:1
 returns-4 : tie.Need-returns-4
 returns-4 c = rw (c .enum-told3 .given .1) refl
 

@@ -5,11 +5,9 @@ use Rattle.indexing_scan.proofs.stored.is_item.Tie as tie
 use Rattle.indexing_scan.proofs.stored.is_item.Reads as reads
 use Rattle.indexing_scan.proofs.stored.is_item.Lts as lts
 
--- src/stored.rt:51:9
 returns : tie.Need-returns
 returns c = simp (eq-eqb _ _ (c .if1 .taken))
 
--- src/stored.rt:47:1
 returns-2 : tie.Need-returns-2
 returns-2 c = simp (ne-eqb _ _ (c .if1 .left))
 

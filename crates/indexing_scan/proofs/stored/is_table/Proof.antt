@@ -5,15 +5,12 @@ use Rattle.indexing_scan.proofs.stored.is_table.Tie as tie
 use Rattle.indexing_scan.proofs.stored.is_table.Reads as reads
 use Rattle.indexing_scan.proofs.stored.is_table.Lts as lts
 
--- src/stored.rt:61:9
 returns : tie.Need-returns
 returns c = simp (eq-eqb _ _ (c .if1 .taken))
 
--- src/stored.rt:64:9
 returns-2 : tie.Need-returns-2
 returns-2 c = simp (ne-eqb _ _ (c .before .if1 .left), eq-eqb _ _ (c .if2 .taken))
 
--- src/stored.rt:57:1
 returns-3 : tie.Need-returns-3
 returns-3 c = simp (ne-eqb _ _ (c .before .if1 .left), ne-eqb _ _ (c .if2 .left))
 

@@ -9,11 +9,9 @@ use Rattle.indexing_scan.proofs.stored.leaves_run.Reads as reads
 use Rattle.indexing_scan.proofs.stored.leaves_run.Lts as lts
 use Rattle.indexing_scan.proofs.stored.in_run.Reads as in-run-reads
 
--- src/stored.rt:82:6
 in-run-requires : tie.Need-in-run-requires
 in-run-requires c κs = search needs
 
--- src/stored.rt:79:1
 returns : tie.Need-returns
 unfolding leaves
 returns c = ap not (c .in-run .ensures)

@@ -9,17 +9,14 @@ use Rattle.indexing_scan.proofs.stored.record_in.Reads as reads
 use Rattle.indexing_scan.proofs.stored.record_in.Lts as lts
 use Rattle.records.proofs.get.Reads as get-reads
 
--- src/stored.rt:35:9
 get-requires : tie.Need-get-requires
 get-requires c κs = search needs
 
--- src/stored.rt:35:9
 returns : tie.Need-returns
 returns c =
     let a = c .before .before .before .args in
     c .get .ensures ∙ in-first (recordsOf (a .index .now)) (a .n) (a .p) (c .before .if1 .taken)
 
--- src/stored.rt:30:1
 returns-2 : tie.Need-returns-2
 returns-2 c =
     let s = c .before .before in

@@ -23,19 +23,15 @@ Inv-loop index n p run i₀ i =
 abbrev μ-loop : tie.MeasureT-loop
 μ-loop index n p run i₀ i = n - i
 
--- src/stored.rt:91:5
 loop-holds : tie.Need-loop-holds Inv-loop μ-loop
 loop-holds c = (omega arith, omega arith, refl)
 
--- src/stored.rt:92:23
 get-requires : tie.Need-get-requires Inv-loop μ-loop
 get-requires c κs = omega arith
 
--- src/stored.rt:92:12
 leaves-run-requires : tie.Need-leaves-run-requires Inv-loop μ-loop
 leaves-run-requires c κs = search needs
 
--- src/stored.rt:93:13
 returns : tie.Need-returns Inv-loop μ-loop
 returns c =
     let s = c .before .before .before .before .before .before in
@@ -45,15 +41,12 @@ returns c =
     (r .ensures) (leaves (a .run)) true (sym (c .before .leaves-run .ensures) ∙ c .if1 .taken) in
     (omega arith, omega arith)
 
--- src/stored.rt:95:9
 add-i : tie.Need-add-i Inv-loop μ-loop
 add-i c = omega arith
 
--- src/stored.rt:91:5
 loop-less : tie.Need-loop-less Inv-loop μ-loop
 loop-less c = omega arith
 
--- src/stored.rt:91:5
 loop-again : tie.Need-loop-again Inv-loop μ-loop
 loop-again c =
     let s = c .before .before .before .before .before .before in
@@ -63,7 +56,6 @@ loop-again c =
     (r .ensures) (leaves (a .run)) false (sym (c .before .leaves-run .ensures) ∙ c .if1 .left) in
     (omega arith, omega arith, omega arith)
 
--- src/stored.rt:86:1
 returns-2 : tie.Need-returns-2 Inv-loop μ-loop
 returns-2 c =
     let a = c .before .before .before .args in

@@ -8,15 +8,12 @@ use Rattle.indexing_scan.proofs.stored.skip_items.Reads as reads
 use Rattle.indexing_scan.proofs.stored.skip_items.Lts as lts
 use Rattle.indexing_scan.proofs.stored.run_end.Reads as run-end-reads
 
--- src/stored.rt:105:23
 add-run-end : tie.Need-add-run-end
 add-run-end c = search needs
 
--- src/stored.rt:105:5
 run-end-requires : tie.Need-run-end-requires
 run-end-requires c κs = search needs
 
--- src/stored.rt:101:1
 returns : tie.Need-returns
 unfolding behindTable
 returns c = (c .run-end .ensures .0, omega arith, c .run-end .ensures .1)

@@ -22,11 +22,9 @@ Inv-loop index n p d i₀ left₀ i left =
 abbrev μ-loop : tie.MeasureT-loop
 μ-loop index n p d i₀ left₀ i left = n - i
 
--- src/stored.rt:131:5
 loop-holds : tie.Need-loop-holds Inv-loop μ-loop
 loop-holds c = (omega arith, omega arith, refl)
 
--- src/stored.rt:133:13
 returns : tie.Need-returns Inv-loop μ-loop
 unfolding behindLine
 returns c =
@@ -36,23 +34,18 @@ returns c =
     let u = ap (λ (x : ℕ). throughLine x rs) (c .if1 .taken) ∙ line-zero rs in
     (omega arith, omega arith)
 
--- src/stored.rt:135:13
 get-requires : tie.Need-get-requires Inv-loop μ-loop
 get-requires c κs = omega arith
 
--- src/stored.rt:137:13
 sub-left : tie.Need-sub-left Inv-loop μ-loop
 sub-left c = omega arith
 
--- src/stored.rt:139:9
 add-i : tie.Need-add-i Inv-loop μ-loop
 add-i c = omega arith
 
--- src/stored.rt:131:5
 loop-less : tie.Need-loop-less Inv-loop μ-loop
 loop-less c = omega arith
 
--- src/stored.rt:131:5
 loop-again : tie.Need-loop-again Inv-loop μ-loop
 loop-again c =
     let s = c .before .before .before .before .before .before .before in
@@ -67,7 +60,6 @@ loop-again c =
     (λ w. let v = u false z (ne-eqb _ _ (w .0 .left)) in (omega arith, omega arith, omega (arith, v, ap f (w .1))))
     (c .if2 .came)
 
--- src/stored.rt:125:1
 returns-2 : tie.Need-returns-2 Inv-loop μ-loop
 unfolding behindLine
 returns-2 c =

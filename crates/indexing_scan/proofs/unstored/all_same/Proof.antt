@@ -7,7 +7,7 @@ use Rattle.indexing_iter.specs.Clauses.{keyOf, known}
 use mathlib.Core.Bool.{_&&_}
 use borrow.Author.Tests.{not-true, not-false}
 use Rattle.indexing_scan.specs.Unstored.{allSame}
-use Rattle.indexing_scan.proofs.UnstoredLaws.{same-step, same-done, known-at}
+use Rattle.indexing_scan.proofs.HeldLaws.{same-step, same-done, known-at}
 use borrow.Author.Needs.{needs}
 use Rattle.indexing_scan.proofs.unstored.all_same.Statement.{statement}
 use Rattle.indexing_scan.proofs.unstored.all_same.Tie as tie
@@ -34,45 +34,35 @@ turn c =
     let K = keyOf classOf (recordsOf (a .code .now)) (a .starts .now) in
     rw (same-step K (a .a) (a .k) (a .clauses .now) (at .loop .i) (search needs), ← c .before .key-of .ensures, ← c .same-key .ensures) at (at .loop .inv)
 
--- src/unstored.rt:64:5
 loop-holds : tie.Need-loop-holds Inv-loop μ-loop
 loop-holds c = search needs
 
--- src/unstored.rt:65:62
 mul-key-of : tie.Need-mul-key-of Inv-loop μ-loop
 mul-key-of c = search needs
 
--- src/unstored.rt:65:62
 shared-slice-read-key-of : tie.Need-shared-slice-read-key-of Inv-loop μ-loop
 shared-slice-read-key-of c = search needs
 
--- src/unstored.rt:65:13
 key-of-requires : tie.Need-key-of-requires Inv-loop μ-loop
 key-of-requires c κs = 
     let a = c .before .before .before .before .before .before .args in
     (search needs, known-at (known (a .starts .now)) (a .clauses .now) (c .before .before .loop .i) (search needs) (search needs))
 
--- src/unstored.rt:66:13
 same-key-requires : tie.Need-same-key-requires Inv-loop μ-loop
 same-key-requires c κs = search needs
 
--- src/unstored.rt:67:13
 returns : tie.Need-returns Inv-loop μ-loop
 returns c = rw (not-true (c .before .same-key .result) (c .if1 .taken)) at (turn (c .before))
 
--- src/unstored.rt:69:9
 add-i : tie.Need-add-i Inv-loop μ-loop
 add-i c = search needs
 
--- src/unstored.rt:64:5
 loop-less : tie.Need-loop-less Inv-loop μ-loop
 loop-less c = search needs
 
--- src/unstored.rt:64:5
 loop-again : tie.Need-loop-again Inv-loop μ-loop
 loop-again c = rw (not-false (c .before .same-key .result) (c .if1 .left)) at (turn (c .before))
 
--- src/unstored.rt:58:1
 returns-2 : tie.Need-returns-2 Inv-loop μ-loop
 returns-2 c = 
     let a = c .before .before .before .before .before .args in

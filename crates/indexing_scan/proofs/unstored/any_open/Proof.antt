@@ -6,7 +6,7 @@ use Rattle.indexing_iter.specs.Classes.{classOf}
 use Rattle.indexing_iter.specs.Clauses.{keyOf, known}
 use mathlib.Core.Bool.{_||_}
 use Rattle.indexing_scan.specs.Unstored.{anyOpen}
-use Rattle.indexing_scan.proofs.UnstoredLaws.{open-step, open-done, known-at}
+use Rattle.indexing_scan.proofs.HeldLaws.{open-step, open-done, known-at}
 use borrow.Author.Needs.{needs}
 use Rattle.indexing_scan.proofs.unstored.any_open.Statement.{statement}
 use Rattle.indexing_scan.proofs.unstored.any_open.Tie as tie
@@ -33,45 +33,35 @@ turn c =
     let K = keyOf classOf (recordsOf (a .code .now)) (a .starts .now) in
     rw (open-step K (a .a) (a .clauses .now) (at .loop .i) (search needs), ← c .before .key-of .ensures, ← c .is-open .ensures) at (at .loop .inv)
 
--- src/unstored.rt:47:5
 loop-holds : tie.Need-loop-holds Inv-loop μ-loop
 loop-holds c = search needs
 
--- src/unstored.rt:48:60
 mul-key-of : tie.Need-mul-key-of Inv-loop μ-loop
 mul-key-of c = search needs
 
--- src/unstored.rt:48:60
 shared-slice-read-key-of : tie.Need-shared-slice-read-key-of Inv-loop μ-loop
 shared-slice-read-key-of c = search needs
 
--- src/unstored.rt:48:13
 key-of-requires : tie.Need-key-of-requires Inv-loop μ-loop
 key-of-requires c κs = 
     let a = c .before .before .before .before .before .before .args in
     (search needs, known-at (known (a .starts .now)) (a .clauses .now) (c .before .before .loop .i) (search needs) (search needs))
 
--- src/unstored.rt:49:12
 is-open-requires : tie.Need-is-open-requires Inv-loop μ-loop
 is-open-requires c κs = search needs
 
--- src/unstored.rt:50:13
 returns : tie.Need-returns Inv-loop μ-loop
 returns c = rw (c .if1 .taken) at (turn (c .before))
 
--- src/unstored.rt:52:9
 add-i : tie.Need-add-i Inv-loop μ-loop
 add-i c = search needs
 
--- src/unstored.rt:47:5
 loop-less : tie.Need-loop-less Inv-loop μ-loop
 loop-less c = search needs
 
--- src/unstored.rt:47:5
 loop-again : tie.Need-loop-again Inv-loop μ-loop
 loop-again c = rw (c .if1 .left) at (turn (c .before))
 
--- src/unstored.rt:41:1
 returns-2 : tie.Need-returns-2 Inv-loop μ-loop
 returns-2 c = 
     let a = c .before .before .before .before .before .args in

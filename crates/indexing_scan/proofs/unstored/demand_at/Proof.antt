@@ -6,7 +6,8 @@ use Rattle.indexing_iter.specs.Classes.{classOf}
 use Rattle.indexing.specs.Build.{programOf}
 use Rattle.indexing_scan.specs.declared.unstored.Narrowed.the-variants.{Passed}
 use Rattle.indexing_scan.specs.Unstored.{moveOf}
-use Rattle.indexing_scan.proofs.UnstoredLaws.{held-same, demand-dead, demand-switch}
+use Rattle.indexing_scan.proofs.HeldLaws.{held-same}
+use Rattle.indexing_scan.proofs.UnstoredLaws.{demand-dead, demand-switch}
 use borrow.Author.Needs.{needs}
 use Rattle.indexing_scan.proofs.unstored.demand_at.Statement.{statement}
 use Rattle.indexing_scan.proofs.unstored.demand_at.Tie as tie
@@ -15,25 +16,20 @@ use Rattle.indexing_scan.proofs.unstored.demand_at.Lts as lts
 use Rattle.indexing_scan.proofs.unstored.any_open.Reads as any-open-reads
 use Rattle.indexing_scan.proofs.unstored.follow_new.Reads as follow-new-reads
 
--- src/unstored.rt:175:47
 slice-reshare-prefix-any-open : tie.Need-slice-reshare-prefix-any-open
 slice-reshare-prefix-any-open c = search needs
 
--- src/unstored.rt:175:47
 slice-aggregate-any-open : tie.Need-slice-aggregate-any-open
 slice-aggregate-any-open c =
     let a = c .before .before .before .before .args in
     sym (length-take-le (a .m) (a .clauses .now) (search needs))
 
--- src/unstored.rt:175:8
 any-open-requires : tie.Need-any-open-requires
 any-open-requires c κs = search needs
 
--- src/unstored.rt:176:9
 same-length : tie.Need-same-length
 same-length c = search needs
 
--- src/unstored.rt:176:9
 returns : tie.Need-returns
 returns c =
     let a = c .before .before .before .before .before .before .args in
@@ -42,15 +38,12 @@ returns c =
     let o = c .before .any-open in
     (demand-dead P (a .a) (a .q) os (o .result) (o .ensures) (c .if1 .taken), held-same (a .starts .now) (a .m) (a .clauses .now) (Passed 2) refl refl (search needs))
 
--- src/unstored.rt:178:5
 follow-new-requires : tie.Need-follow-new-requires
 follow-new-requires c κs = search needs
 
--- src/unstored.rt:168:1
 same-length-2 : tie.Need-same-length-2
 same-length-2 c = search needs
 
--- src/unstored.rt:168:1
 returns-2 : tie.Need-returns-2
 returns-2 c =
     let a = c .before .before .before .before .before .before .before .before .before .before .args in

@@ -7,17 +7,14 @@ use Rattle.indexing_scan.proofs.unstored.entered.Tie as tie
 use Rattle.indexing_scan.proofs.unstored.entered.Reads as reads
 use Rattle.indexing_scan.proofs.unstored.entered.Lts as lts
 
--- src/unstored.rt:110:9
 returns : tie.Need-returns
 unfolding enteredBy
 returns c = rw (c .if1 .taken) refl
 
--- src/unstored.rt:113:9
 returns-2 : tie.Need-returns-2
 unfolding enteredBy
 returns-2 c = rw (c .before .if1 .left, eq-eqb _ _ (c .if2 .taken)) refl
 
--- src/unstored.rt:106:1
 returns-3 : tie.Need-returns-3
 unfolding enteredBy
 returns-3 c = rw (c .before .if1 .left, ne-eqb _ _ (c .if2 .left)) refl

@@ -51,7 +51,6 @@ turn c =
     (l .tables) (l .b) (l .count) (l .clauses) (c .narrow .last .1 .1 .1 .0) (c .before .before .call-key .result) (c .narrow .result)
     (l .inv .0) (search needs) (c .before .before .call-key .ensures) (c .narrow .ensures .0) (c .narrow .ensures .1)
 
--- src/unstored.rt:221:5
 loop-holds : tie.Need-loop-holds Inv-loop μ-loop
 loop-holds c =
     let a = c .before .before .before .before .args in
@@ -60,81 +59,64 @@ loop-holds c =
     (goes-first P Q (a .a) (take (a .m) (a .clauses .now)), search needs, search needs, omega arith, search needs, search needs, search needs,
       code-arity classOf (a .settings .arity) (a .code .now) (a .starts .now) (search needs) .1, search needs)
 
--- src/unstored.rt:222:13
 call-key-requires : tie.Need-call-key-requires Inv-loop μ-loop
 call-key-requires c κs =
     let a = c .before .before .before .before .before .before .args in
     (search needs, omega (arith, c .loop-test .taken, call-records (a .settings .arity) (a .call .now) (search needs)))
 
--- src/unstored.rt:223:13
 narrow-requires : tie.Need-narrow-requires Inv-loop μ-loop
 narrow-requires c κs = search needs
 
 enum-told : tie.Need-enum-told Inv-loop μ-loop
 enum-told c = search needs
 
--- src/unstored.rt:227:17
 enum-told-2 : tie.Need-enum-told-2 Inv-loop μ-loop
 enum-told-2 c = search needs
 
--- src/unstored.rt:227:17
 add-tables : tie.Need-add-tables Inv-loop μ-loop
 add-tables c = search needs
 
--- src/unstored.rt:230:62
 enum-told-3 : tie.Need-enum-told-3 Inv-loop μ-loop
 enum-told-3 c = search needs
 
--- src/unstored.rt:230:62
 add-t18 : tie.Need-add-t18 Inv-loop μ-loop
 add-t18 c = search needs
 
--- src/unstored.rt:230:17
 same-length : tie.Need-same-length Inv-loop μ-loop
 same-length c = search needs
 
--- src/unstored.rt:230:17
 returns : tie.Need-returns Inv-loop μ-loop
 returns c =
     let s = rw (c .enum-told3 .given .1) at (turn (c .before .before .before .before)) in
     (s .0, (s .1, omega arith))
 
--- src/unstored.rt:233:62
 enum-told-4 : tie.Need-enum-told-4 Inv-loop μ-loop
 enum-told-4 c = search needs
 
--- src/unstored.rt:233:62
 add-t19 : tie.Need-add-t19 Inv-loop μ-loop
 add-t19 c = search needs
 
--- src/unstored.rt:233:17
 same-length-2 : tie.Need-same-length-2 Inv-loop μ-loop
 same-length-2 c = search needs
 
--- src/unstored.rt:233:17
 returns-2 : tie.Need-returns-2 Inv-loop μ-loop
 returns-2 c =
     let s = rw (c .enum-told4 .given .1) at (turn (c .before .before .before .before)) in
     let v = rw (c .enum-told4 .given .1) at (c .before .before .before .before .narrow .ensures .1 .within) in
     (s .0, (s .1, omega (arith, v, c .before .before .before .before .before .before .before .before .loop .inv .8)))
 
--- src/unstored.rt:235:33
 enum-known-r : tie.Need-enum-known-r Inv-loop μ-loop
 enum-known-r c = search needs
 
--- src/unstored.rt:237:17
 add-tables-2 : tie.Need-add-tables-2 Inv-loop μ-loop
 add-tables-2 c = search needs
 
--- src/unstored.rt:240:9
 add-b : tie.Need-add-b Inv-loop μ-loop
 add-b c = search needs
 
--- src/unstored.rt:221:5
 loop-less : tie.Need-loop-less Inv-loop μ-loop
 loop-less c = search needs
 
--- src/unstored.rt:221:5
 loop-again : tie.Need-loop-again Inv-loop μ-loop
 loop-again c =
     let n = c .before .before .before in
@@ -161,11 +143,9 @@ loop-again c =
       rw (w .3, w .4) (s, search needs, search needs, omega (arith, l .inv .3), omega (arith, l .inv .4, len), len ∙ l .inv .5, o, l .inv .7, omega (arith, l .inv .8))))
     (c .match .came)
 
--- src/unstored.rt:209:1
 same-length-3 : tie.Need-same-length-3 Inv-loop μ-loop
 same-length-3 c = search needs
 
--- src/unstored.rt:209:1
 returns-3 : tie.Need-returns-3 Inv-loop μ-loop
 returns-3 c =
     let l = c .before .loop in

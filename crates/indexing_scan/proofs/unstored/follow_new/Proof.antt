@@ -10,7 +10,8 @@ use Rattle.indexing_iter.specs.Clauses.{keyOf, known}
 use Rattle.indexing.specs.Lists.{every}
 use Rattle.indexing.specs.Build.{programOf}
 use Rattle.indexing_scan.specs.Unstored.{likeTo, allSame}
-use Rattle.indexing_scan.proofs.UnstoredLaws.{Front, front-kept, length-like, known-like, known-first, held-empty, held-none, held-entered, follow-empty, follow-one, follow-equal, follow-none}
+use Rattle.indexing_scan.proofs.HeldLaws.{Front, front-kept, length-like, known-like, held-empty, held-none, held-entered}
+use Rattle.indexing_scan.proofs.UnstoredLaws.{known-first, follow-empty, follow-one, follow-equal, follow-none}
 use borrow.Author.Needs.{needs}
 use Rattle.indexing_scan.proofs.unstored.follow_new.Statement.{statement}
 use Rattle.indexing_scan.proofs.unstored.follow_new.Tie as tie
@@ -92,19 +93,15 @@ picked-few c =
     let n : length (take (k .keep-alike .result) list) ≡ k .keep-alike .result = length-take-le (k .keep-alike .result) list (grouped k .room) in
     omega (arith, picked c .count, length-like K false (a .a) (a .q) (take (k .keep-alike .result) list), grouped-few k)
 
--- src/unstored.rt:149:9
 keep-alike-requires : tie.Need-keep-alike-requires
 keep-alike-requires c κs = search needs
 
--- src/unstored.rt:151:9
 no-entry-requires : tie.Need-no-entry-requires
 no-entry-requires c κs = search needs
 
--- src/unstored.rt:151:9
 same-length : tie.Need-same-length
 same-length c = search needs
 
--- src/unstored.rt:151:9
 returns : tie.Need-returns
 returns c = 
     let k = c .before .before .before .before in
@@ -115,43 +112,35 @@ returns c =
     (follow-empty P (a .a) (take (a .m) (a .clauses .now)) (a .q) (search needs) (k .keep-alike .result) list (k .keep-alike .ensures .0) (c .before .if1 .taken),
       held-empty (a .starts .now) (a .m) (a .clauses .now) list (a .settings .dynamic) (a .q))
 
--- src/unstored.rt:153:17
 slice-read-first : tie.Need-slice-read-first
 slice-read-first c = 
     let k = c .before .before .before .before in
     let h : 0 < length (k .keep-alike .last .1 .1 .1 .0) = omega (arith, grouped k .room, c .before .if1 .left) in
     h
 
--- src/unstored.rt:154:9
 key-of-requires : tie.Need-key-of-requires
 key-of-requires c κs =
     let k = c .before .before .before .before in
     let a = k .before .before .before .before .before .args in
     (search needs, known-first (known (a .starts .now)) (k .keep-alike .result) (k .keep-alike .last .1 .1 .1 .0) (grouped-known k) (omega (arith, c .before .if1 .left)) (grouped k .room))
 
--- src/unstored.rt:155:38
 slice-reshare-prefix-all-same : tie.Need-slice-reshare-prefix-all-same
 slice-reshare-prefix-all-same c = grouped (c .before .before .before .before .before) .room
 
--- src/unstored.rt:155:38
 slice-aggregate-all-same : tie.Need-slice-aggregate-all-same
 slice-aggregate-all-same c = 
     let k = c .before .before .before .before .before .before in
     sym (length-take-le (k .keep-alike .result) (k .keep-alike .last .1 .1 .1 .0) (grouped k .room))
 
--- src/unstored.rt:155:8
 all-same-requires : tie.Need-all-same-requires
 all-same-requires c κs = (search needs, grouped-known (c .before .before .before .before .before .before))
 
--- src/unstored.rt:156:9
 entered-requires : tie.Need-entered-requires
 entered-requires c κs = search needs
 
--- src/unstored.rt:156:9
 same-length-2 : tie.Need-same-length-2
 same-length-2 c = search needs
 
--- src/unstored.rt:156:9
 returns-2 : tie.Need-returns-2
 returns-2 c =
     let k = c .before .before .before .before .before .before .before .before .before in
@@ -164,17 +153,14 @@ returns-2 c =
     (follow-one P (a .a) (take (a .m) (a .clauses .now)) (a .q) (search needs) n list (grouped k) h (sym (compared (c .before .before)) ∙ c .before .if2 .taken),
       held-entered (a .starts .now) (a .m) (a .clauses .now) list (a .settings .dynamic) 4 n (grouped k .room) (grouped-few k) (grouped-known k))
 
--- src/unstored.rt:158:9
 keep-alike-requires-2 : tie.Need-keep-alike-requires-2
 keep-alike-requires-2 c κs =
     let k = c .before .before .before .before .before .before .before .before .before in
     (search needs, (grouped k .room, grouped-known k))
 
--- src/unstored.rt:160:9
 same-length-3 : tie.Need-same-length-3
 same-length-3 c = search needs
 
--- src/unstored.rt:160:9
 returns-3 : tie.Need-returns-3
 returns-3 c =
     let k = c .before .before .before .before .before .before .before .before .before .before .before .before .before in
@@ -188,22 +174,18 @@ returns-3 c =
         (sym (compared (c .before .before .before .before .before .before)) ∙ c .before .before .before .before .before .if2 .left) (c .before .before .before .keep-alike2 .ensures .0) (c .if3 .taken),
       held-none (a .starts .now) (a .m) (a .clauses .now) new)
 
--- src/unstored.rt:162:13
 slice-read-o : tie.Need-slice-read-o
 slice-read-o c =
     let k = c .before .before .before .before in
     let h : 0 < length (k .keep-alike2 .last .1 .1 .1 .0) = omega (arith, picked k .room, c .before .if3 .left) in
     h
 
--- src/unstored.rt:163:5
 entered-requires-2 : tie.Need-entered-requires-2
 entered-requires-2 c κs = search needs
 
--- src/unstored.rt:140:1
 same-length-4 : tie.Need-same-length-4
 same-length-4 c = search needs
 
--- src/unstored.rt:140:1
 returns-4 : tie.Need-returns-4
 returns-4 c =
     let k = c .before .before .before .before .before .before .before .before .before .before .before .before .before .before .before in

@@ -7,23 +7,18 @@ use Rattle.indexing_scan.proofs.unstored.is_alike.Lts as lts
 use Rattle.indexing_iter.proofs.group_of.Reads as group-of-reads
 use Rattle.indexing_iter.proofs.same_key.Reads as same-key-reads
 
--- src/unstored.rt:79:16
 group-of-requires : tie.Need-group-of-requires
 group-of-requires c κs = search needs
 
--- src/unstored.rt:79:46
 group-of-requires-2 : tie.Need-group-of-requires-2
 group-of-requires-2 c κs = search needs
 
--- src/unstored.rt:79:9
 returns : tie.Need-returns
 returns c = rw (c .before .before .if1 .taken, ← c .before .group-of .ensures, ← c .group-of2 .ensures) refl
 
--- src/unstored.rt:81:5
 same-key-requires : tie.Need-same-key-requires
 same-key-requires c κs = search needs
 
--- src/unstored.rt:75:1
 returns-2 : tie.Need-returns-2
 returns-2 c = rw (c .before .if1 .left) (c .same-key .ensures)
 

@@ -9,7 +9,7 @@ use Rattle.records.specs.Records.{recordsOf}
 use Rattle.indexing_iter.specs.Classes.{classOf}
 use Rattle.indexing_iter.specs.Clauses.{keyOf, known}
 use Rattle.indexing_scan.specs.Unstored.{alike, likeTo}
-use Rattle.indexing_scan.proofs.UnstoredLaws.{Kept, kept-start, kept-read, kept-yes, kept-no, known-at}
+use Rattle.indexing_scan.proofs.HeldLaws.{Kept, kept-start, kept-read, kept-yes, kept-no, known-at}
 use borrow.Author.Needs.{needs}
 use Rattle.indexing_scan.proofs.unstored.keep_alike.Statement.{statement}
 use Rattle.indexing_scan.proofs.unstored.keep_alike.Tie as tie
@@ -25,21 +25,17 @@ Inv-loop code starts arity clauses₀ m a group q k₀ i₀ clauses k i =
 abbrev μ-loop : tie.MeasureT-loop
 μ-loop code starts arity clauses₀ m a group q k₀ i₀ clauses k i = m - i
 
--- src/unstored.rt:94:5
 loop-holds : tie.Need-loop-holds Inv-loop μ-loop
 loop-holds c = 
     let a = c .before .before .before .args in
     (search needs, search needs, kept-start (λ o. alike (a .group) (a .q) (keyOf classOf (recordsOf (a .code .now)) (a .starts .now) o (a .a))) (a .clauses .now))
 
--- src/unstored.rt:95:17
 mul-o : tie.Need-mul-o Inv-loop μ-loop
 mul-o c = search needs
 
--- src/unstored.rt:95:17
 slice-read-o : tie.Need-slice-read-o Inv-loop μ-loop
 slice-read-o c = search needs
 
--- src/unstored.rt:96:31
 key-of-requires : tie.Need-key-of-requires Inv-loop μ-loop
 key-of-requires c κs =
     let l = c .before .before in
@@ -50,31 +46,24 @@ key-of-requires c κs =
     let e = known-at (known (a .starts .now)) (take (a .m) (a .clauses .now)) (l .loop .i) (search needs) (omega arith) in
     (search needs, ap (known (a .starts .now)) (r ∙ sym (getD-take (a .m) (a .clauses .now) (l .loop .i) 0 (search needs))) ∙ e)
 
--- src/unstored.rt:96:12
 is-alike-requires : tie.Need-is-alike-requires Inv-loop μ-loop
 is-alike-requires c κs = search needs
 
--- src/unstored.rt:97:13
 mul-clauses : tie.Need-mul-clauses Inv-loop μ-loop
 mul-clauses c = search needs
 
--- src/unstored.rt:97:13
 slice-write-clauses : tie.Need-slice-write-clauses Inv-loop μ-loop
 slice-write-clauses c = search needs
 
--- src/unstored.rt:98:13
 add-k : tie.Need-add-k Inv-loop μ-loop
 add-k c = search needs
 
--- src/unstored.rt:100:9
 add-i : tie.Need-add-i Inv-loop μ-loop
 add-i c = search needs
 
--- src/unstored.rt:94:5
 loop-less : tie.Need-loop-less Inv-loop μ-loop
 loop-less c = search needs
 
--- src/unstored.rt:94:5
 loop-again : tie.Need-loop-again Inv-loop μ-loop
 loop-again c =
     let l = c .before .before .before .before .before in
@@ -97,11 +86,9 @@ loop-again c =
       rw (w .1, w .2) (n, l .loop .inv .1, k))
     (c .if1 .came)
 
--- src/unstored.rt:86:1
 same-length : tie.Need-same-length Inv-loop μ-loop
 same-length c = search needs
 
--- src/unstored.rt:86:1
 returns : tie.Need-returns Inv-loop μ-loop
 unfolding likeTo
 returns c =

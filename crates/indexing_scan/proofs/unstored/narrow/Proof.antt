@@ -8,7 +8,8 @@ use Rattle.indexing.specs.Build.{programOf}
 use Rattle.indexing_scan.specs.declared.unstored.Narrowed.the-variants.{NoTable, Passed}
 use Rattle.indexing_iter.proofs.CheckLaws.{code-arity}
 use Rattle.indexing_scan.specs.Unstored.{moveOf}
-use Rattle.indexing_scan.proofs.UnstoredLaws.{held-same, move-masked, move-none, move-dead, move-unbound, move-switch}
+use Rattle.indexing_scan.proofs.HeldLaws.{held-same}
+use Rattle.indexing_scan.proofs.UnstoredLaws.{move-masked, move-none, move-dead, move-unbound, move-switch}
 use borrow.Author.Needs.{needs}
 use Rattle.indexing_scan.proofs.unstored.narrow.Statement.{statement}
 use Rattle.indexing_scan.proofs.unstored.narrow.Tie as tie
@@ -19,13 +20,11 @@ use Rattle.indexing_scan.proofs.unstored.any_open.Reads as any-open-rea
 use Rattle.indexing_scan.proofs.unstored.follow_new.Reads as follow-new-reads
 use Rattle.indexing_scan.proofs.unstored.is_masked.Reads as is-masked-reads
 
--- src/unstored.rt:189:8
 is-masked-requires : tie.Need-is-masked-requires
 is-masked-requires c κs =
     let a = c .before .before .before .args in
     (search needs, omega (arith, code-arity classOf (a .settings .arity) (a .code .now) (a .starts .now) (search needs)))
 
--- src/unstored.rt:190:9
 returns : tie.Need-returns
 returns c =
     let a = c .before .before .before .before .before .args in
@@ -34,25 +33,20 @@ returns c =
     let i = c .before .is-masked in
     (move-masked P (a .a) (a .q) os (i .result) (i .ensures) (c .if1 .taken), held-same (a .starts .now) (a .m) (a .clauses .now) NoTable refl refl (search needs))
 
--- src/unstored.rt:192:47
 slice-reshare-prefix-any-open : tie.Need-slice-reshare-prefix-any-open
 slice-reshare-prefix-any-open c = search needs
 
--- src/unstored.rt:192:47
 slice-aggregate-any-open : tie.Need-slice-aggregate-any-open
 slice-aggregate-any-open c =
     let a = c .before .before .before .before .before .before .args in
     sym (length-take-le (a .m) (a .clauses .now) (search needs))
 
--- src/unstored.rt:192:8
 any-open-requires : tie.Need-any-open-requires
 any-open-requires c κs = search needs
 
--- src/unstored.rt:194:13
 same-length : tie.Need-same-length
 same-length c = search needs
 
--- src/unstored.rt:194:13
 returns-2 : tie.Need-returns-2
 returns-2 c =
     let a = c .before .before .before .before .before .before .before .before .before .before .args in
@@ -63,15 +57,12 @@ returns-2 c =
     (move-none P (a .a) (a .q) os (i .result) (i .ensures) (o .result) (o .ensures) (c .before .before .before .before .before .if1 .left) (c .before .before .if2 .taken) (c .if3 .taken),
       held-same (a .starts .now) (a .m) (a .clauses .now) NoTable refl refl (search needs))
 
--- src/unstored.rt:196:12
 is-open-requires : tie.Need-is-open-requires
 is-open-requires c κs = search needs
 
--- src/unstored.rt:197:13
 same-length-2 : tie.Need-same-length-2
 same-length-2 c = search needs
 
--- src/unstored.rt:197:13
 returns-3 : tie.Need-returns-3
 returns-3 c =
     let a = c .before .before .before .before .before .before .before .before .before .before .before .before .args in
@@ -84,11 +75,9 @@ returns-3 c =
         (c .before .before .before .before .if2 .taken) (c .before .before .if3 .left) in
     (rw (c .if4 .taken) at m, held-same (a .starts .now) (a .m) (a .clauses .now) (Passed 1) refl refl (search needs))
 
--- src/unstored.rt:199:9
 same-length-3 : tie.Need-same-length-3
 same-length-3 c = search needs
 
--- src/unstored.rt:199:9
 returns-4 : tie.Need-returns-4
 returns-4 c =
     let a = c .before .before .before .before .before .before .before .before .before .before .before .before .args in
@@ -101,15 +90,12 @@ returns-4 c =
         (c .before .before .before .before .if2 .taken) (c .before .before .if3 .left) in
     (rw (c .if4 .left) at m, held-same (a .starts .now) (a .m) (a .clauses .now) (Passed 2) refl refl (search needs))
 
--- src/unstored.rt:201:8
 is-open-requires-2 : tie.Need-is-open-requires-2
 is-open-requires-2 c κs = search needs
 
--- src/unstored.rt:202:9
 same-length-4 : tie.Need-same-length-4
 same-length-4 c = search needs
 
--- src/unstored.rt:202:9
 returns-5 : tie.Need-returns-5
 returns-5 c =
     let a = c .before .before .before .before .before .before .before .before .before .before .args in
@@ -121,15 +107,12 @@ returns-5 c =
     (move-unbound P (a .a) (a .q) os (i .result) (i .ensures) (o .result) (o .ensures) (c .before .before .before .before .before .if1 .left) (u .result) (u .ensures) (c .before .before .if2 .left) (c .if5 .taken),
       held-same (a .starts .now) (a .m) (a .clauses .now) (Passed 1) refl refl (search needs))
 
--- src/unstored.rt:204:5
 follow-new-requires : tie.Need-follow-new-requires
 follow-new-requires c κs = (search needs, (search needs, sym (c .before .before .is-open2 .ensures) ∙ c .before .if5 .left))
 
--- src/unstored.rt:182:1
 same-length-5 : tie.Need-same-length-5
 same-length-5 c = search needs
 
--- src/unstored.rt:182:1
 returns-6 : tie.Need-returns-6
 returns-6 c =
     let a = c .before .before .before .before .before .before .before .before .before .before .before .before .before .before .args in

@@ -8,21 +8,17 @@ use Rattle.indexing_scan.proofs.unstored.no_entry.Reads as reads
 use Rattle.indexing_scan.proofs.unstored.no_entry.Lts as lts
 use Rattle.indexing_iter.proofs.group_of.Reads as group-of-reads
 
--- src/unstored.rt:123:9
 returns : tie.Need-returns
 unfolding emptyBy
 returns c = rw (not-true (c .before .args .dynamic) (c .if1 .taken)) refl
 
--- src/unstored.rt:125:8
 group-of-requires : tie.Need-group-of-requires
 group-of-requires c κs = search needs
 
--- src/unstored.rt:126:9
 returns-2 : tie.Need-returns-2
 unfolding emptyBy
 returns-2 c = rw (not-false (c .before .before .before .args .dynamic) (c .before .before .if1 .left), ← c .before .group-of .ensures, eq-eqb _ _ (c .if2 .taken)) refl
 
--- src/unstored.rt:119:1
 returns-3 : tie.Need-returns-3
 unfolding emptyBy
 returns-3 c = rw (not-false (c .before .before .before .args .dynamic) (c .before .before .if1 .left), ← c .before .group-of .ensures, ne-eqb _ _ (c .if2 .left)) refl

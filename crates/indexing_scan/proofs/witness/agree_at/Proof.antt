@@ -6,27 +6,21 @@ use Rattle.indexing_scan.proofs.witness.agree_at.Lts as lts
 use Rattle.indexing_iter.proofs.is_open.Reads as is-open-reads
 use Rattle.indexing_iter.proofs.same_key.Reads as same-key-reads
 
--- src/witness.rt:28:8
 is-open-requires : tie.Need-is-open-requires
 is-open-requires c κs = search needs
 
--- src/witness.rt:29:9
 returns : tie.Need-returns
 returns c = search needs
 
--- src/witness.rt:31:8
 is-open-requires-2 : tie.Need-is-open-requires-2
 is-open-requires-2 c κs = search needs
 
--- src/witness.rt:32:9
 returns-2 : tie.Need-returns-2
 returns-2 c = search needs
 
--- src/witness.rt:34:5
 same-key-requires : tie.Need-same-key-requires
 same-key-requires c κs = search needs
 
--- src/witness.rt:25:1
 returns-3 : tie.Need-returns-3
 returns-3 c = rw (← c .before .before .before .before .is-open .ensures, c .before .before .before .if1 .left, ← c .before .before .is-open2 .ensures, c .before .if2 .left) (c .same-key .ensures)
 

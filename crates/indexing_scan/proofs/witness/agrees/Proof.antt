@@ -43,7 +43,6 @@ turn c =
     let Q = callOf (a .call .now) in
     rw (agrees-step P Q (a .offset) (l .a) (search needs), ← c .before .before .call-key .ensures, ← c .before .key-of .ensures, ← c .agree-at .ensures) at (l .inv .0)
 
--- src/witness.rt:45:5
 loop-holds : tie.Need-loop-holds Inv-loop μ-loop
 loop-holds c =
     let a = c .before .before .before .args in
@@ -51,37 +50,29 @@ loop-holds c =
     let Q = callOf (a .call .now) in
     (agrees-first P Q (a .offset), search needs, omega arith, code-arity classOf (a .settings .arity) (a .code .now) (a .starts .now) (search needs) .1)
 
--- src/witness.rt:46:13
 call-key-requires : tie.Need-call-key-requires Inv-loop μ-loop
 call-key-requires c κs =
     let a = c .before .before .before .before .before .before .args in
     (search needs, omega (arith, c .if1 .taken, call-records (a .settings .arity) (a .call .now) (search needs)))
 
--- src/witness.rt:47:13
 key-of-requires : tie.Need-key-of-requires Inv-loop μ-loop
 key-of-requires c κs = search needs
 
--- src/witness.rt:48:13
 agree-at-requires : tie.Need-agree-at-requires Inv-loop μ-loop
 agree-at-requires c κs = search needs
 
--- src/witness.rt:49:13
 returns : tie.Need-returns Inv-loop μ-loop
 returns c = rw (not-true (c .before .agree-at .result) (c .if2 .taken)) at (turn (c .before))
 
--- src/witness.rt:51:9
 add-a : tie.Need-add-a Inv-loop μ-loop
 add-a c = search needs
 
--- src/witness.rt:45:5
 loop-less : tie.Need-loop-less Inv-loop μ-loop
 loop-less c = search needs
 
--- src/witness.rt:45:5
 loop-again : tie.Need-loop-again Inv-loop μ-loop
 loop-again c = (rw (not-false (c .before .agree-at .result) (c .if2 .left)) at (turn (c .before)), search needs, search needs, search needs)
 
--- src/witness.rt:38:1
 returns-2 : tie.Need-returns-2 Inv-loop μ-loop
 returns-2 c =
     let a = c .before .before .before .before .before .before .args in

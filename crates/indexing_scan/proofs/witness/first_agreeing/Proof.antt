@@ -40,50 +40,40 @@ turn c =
     let Q = callOf (a .call .now) in
     rw (first-step (agree P Q) (a .starts .now) (l .i) (search needs), ← c .agrees .ensures) at (l .inv)
 
--- src/witness.rt:63:5
 loop-holds : tie.Need-loop-holds Inv-loop μ-loop
 unfolding agreeing
 loop-holds c = refl
 
--- src/witness.rt:64:22
 mul-offset : tie.Need-mul-offset Inv-loop μ-loop
 mul-offset c = search needs
 
--- src/witness.rt:64:22
 shared-slice-read-offset : tie.Need-shared-slice-read-offset Inv-loop μ-loop
 shared-slice-read-offset c = search needs
 
--- src/witness.rt:64:22
 add-offset : tie.Need-add-offset Inv-loop μ-loop
 add-offset c =
     let a = c .before .before .before .before .before .before .args in
     let o = clause-offset classOf (a .settings .arity) (a .code .now) (a .starts .now) (c .before .before .loop .i) (search needs) (search needs) in
     record { fits = omega (arith, o .1) }
 
--- src/witness.rt:65:12
 agrees-requires : tie.Need-agrees-requires Inv-loop μ-loop
 agrees-requires c κs =
     let a = c .before .before .before .before .before .before .args in
     let o = clause-offset classOf (a .settings .arity) (a .code .now) (a .starts .now) (c .before .before .loop .i) (search needs) (search needs) in
     (search needs, (search needs, o .0))
 
--- src/witness.rt:66:13
 returns : tie.Need-returns Inv-loop μ-loop
 returns c = rw (c .if1 .taken) at (turn (c .before))
 
--- src/witness.rt:68:9
 add-i : tie.Need-add-i Inv-loop μ-loop
 add-i c = search needs
 
--- src/witness.rt:63:5
 loop-less : tie.Need-loop-less Inv-loop μ-loop
 loop-less c = search needs
 
--- src/witness.rt:63:5
 loop-again : tie.Need-loop-again Inv-loop μ-loop
 loop-again c = rw (c .if1 .left) at (turn (c .before))
 
--- src/witness.rt:57:1
 returns-2 : tie.Need-returns-2 Inv-loop μ-loop
 returns-2 c =
     let a = c .before .before .before .before .before .args in

@@ -10,44 +10,36 @@ use Rattle.indexing_scan.proofs.calls.check_call.Reads as check-call-re
 use Rattle.indexing_scan.proofs.witness.first_agreeing.Reads as first-agreeing-reads
 use Rattle.indexing_scan.proofs.witness.refusal_of.Reads as refusal-of-reads
 
--- src/witness.rt:88:9
 check-code-requires : tie.Need-check-code-requires
 check-code-requires c κs = search needs
 
 enum-told : tie.Need-enum-told
 enum-told c = search needs
 
--- src/witness.rt:90:9
 enum-told-2 : tie.Need-enum-told-2
 enum-told-2 c = search needs
 
--- src/witness.rt:90:9
 refusal-of-requires : tie.Need-refusal-of-requires
 refusal-of-requires c κs = search needs
 
--- src/witness.rt:90:9
 returns : tie.Need-returns
 returns c =
     let a = c .before .before .before .before .before .before .before .args in
     let x = c .before .before .before .check-code in
     refused-first classOf (a .code .now) (a .starts .now) (a .settings) (a .call .now) (x .result) (x .ensures) _ (c .refusal-of .result) (c .before .enum-told2 .given .1) (c .refusal-of .ensures)
 
--- src/witness.rt:92:9
 check-call-requires : tie.Need-check-call-requires
 check-call-requires c κs = search needs
 
 enum-told-3 : tie.Need-enum-told-3
 enum-told-3 c = search needs
 
--- src/witness.rt:94:9
 enum-told-4 : tie.Need-enum-told-4
 enum-told-4 c = search needs
 
--- src/witness.rt:94:9
 refusal-of-requires-2 : tie.Need-refusal-of-requires-2
 refusal-of-requires-2 c κs = search needs
 
--- src/witness.rt:94:9
 returns-2 : tie.Need-returns-2
 returns-2 c =
     let a = c .before .before .before .before .before .before .before .before .before .before .args in
@@ -56,14 +48,12 @@ returns-2 c =
     refused-next classOf (a .code .now) (a .starts .now) (a .settings) (a .call .now) (x .result) (x .ensures)
     (c .before .before .before .before .enum-told .given .1) (y .result) (y .ensures) _ (c .refusal-of2 .result) (c .before .enum-told4 .given .1) (c .refusal-of2 .ensures)
 
--- src/witness.rt:96:22
 first-agreeing-requires : tie.Need-first-agreeing-requires
 first-agreeing-requires c κs =
     let x = c .before .before .before .before .before .check-code in
     let y = c .before .before .check-call in
     (rw (← x .ensures) (c .before .before .before .enum-told .given .1), rw (← y .ensures) (c .enum-told3 .given .1))
 
--- src/witness.rt:85:1
 returns-3 : tie.Need-returns-3
 returns-3 c =
     let a = c .before .before .before .before .before .before .before .before .before .before .args in

@@ -1,75 +1,59 @@
--- The keys that are left are distinct where all are. Assumes nothing.
-use Prim.Native.Nat.{_-_, _+_}
-use mathlib.Core.Path.{_≡_}
-use mathlib.Core.Bool.{not, _&&_}
-use lib.Seq.{slice}
+-- The same answer in each of the ways. Assumes nothing.
+use mathlib.Core.Path.{sym}
 use borrow.Author.Needs.{needs}
 use Rattle.records.specs.Records.{recordsOf}
-use Rattle.well_formed.specs.Pass.{distinctKeys}
-use Rattle.well_formed.proofs.KeyParts.{distinct-step, distinct-none}
+use Rattle.well_formed.proofs.KeyParts.{distinct-none}
 use Rattle.well_formed.proofs.keys.distinct_keys.Statement.{statement}
 use Rattle.well_formed.proofs.keys.distinct_keys.Tie as tie
 use Rattle.well_formed.proofs.keys.distinct_keys.Reads as reads
 use Rattle.well_formed.proofs.keys.distinct_keys.Lts as lts
-use Rattle.records.proofs.get.Reads as get-reads
-use Rattle.well_formed.proofs.keys.key_among.Reads as key-among-reads
+use Rattle.well_formed.proofs.keys.distinct_few.Reads as distinct-few-reads
+use Rattle.well_formed.proofs.keys.distinct_many.Reads as distinct-many-reads
+use Rattle.well_formed.proofs.keys.distinct_pairs.Reads as distinct-pairs-reads
 
-abbrev Inv-loop : tie.InvT-loop
-Inv-loop index from to i₀ i = distinctKeys (slice i to (recordsOf index)) ≡ distinctKeys (slice from to (recordsOf index))
+returns : tie.Need-returns
+returns c =
+    let a = c .before .before .args in
+    sym (distinct-none (recordsOf (a .index .now)) (a .from) (a .to) (c .if1 .taken))
 
-abbrev μ-loop : tie.MeasureT-loop
-μ-loop index from to i₀ i = to - i
+sub-count : tie.Need-sub-count
+sub-count c = search needs
 
--- in a turn: whether the key of the record at i stands once more, and whether those after it are distinct
-turn : (c : tie.After-key-among Inv-loop μ-loop)
-    → let a = c .before .before .before .before .before .args in
-    let rs = recordsOf (a .index .now) in
-    (not (c .key-among .result) && distinctKeys (slice (c .before .before .before .loop .i + 1) (a .to) rs)) ≡ distinctKeys (slice (a .from) (a .to) rs)
-turn c =
-    let a = c .before .before .before .before .before .args in
-    let rs = recordsOf (a .index .now) in
-    rw (distinct-step _ rs _ _ (c .before .before .loop-test .taken) (search needs) (c .before .get .ensures), ← c .key-among .ensures)
-    at (c .before .before .before .loop .inv)
+distinct-pairs-requires : tie.Need-distinct-pairs-requires
+distinct-pairs-requires c κs = search needs
 
-loop-holds : tie.Need-loop-holds Inv-loop μ-loop
-loop-holds c = search needs
+returns-2 : tie.Need-returns-2
+returns-2 c = search needs
 
-get-requires : tie.Need-get-requires Inv-loop μ-loop
-get-requires c κs = search needs
+distinct-few-requires : tie.Need-distinct-few-requires
+distinct-few-requires c κs = search needs
 
-add-next : tie.Need-add-next Inv-loop μ-loop
-add-next c = search needs
+returns-3 : tie.Need-returns-3
+returns-3 c = search needs
 
-key-among-requires : tie.Need-key-among-requires Inv-loop μ-loop
-key-among-requires c κs = search needs
+distinct-many-requires : tie.Need-distinct-many-requires
+distinct-many-requires c κs = search needs
 
-returns : tie.Need-returns Inv-loop μ-loop
-returns c = rw (c .if1 .taken) at (turn (c .before))
+returns-4 : tie.Need-returns-4
+returns-4 c = search needs
 
-add-i : tie.Need-add-i Inv-loop μ-loop
-add-i c = search needs
+distinct-pairs-requires-2 : tie.Need-distinct-pairs-requires-2
+distinct-pairs-requires-2 c κs = search needs
 
-loop-less : tie.Need-loop-less Inv-loop μ-loop
-loop-less c = search needs
-
-loop-again : tie.Need-loop-again Inv-loop μ-loop
-loop-again c = rw (c .if1 .left) at (turn (c .before))
-
-returns-2 : tie.Need-returns-2 Inv-loop μ-loop
-returns-2 c = rw (distinct-none _ _ _ (c .loop-test .left)) at (c .before .loop .inv)
+returns-5 : tie.Need-returns-5
+returns-5 c = search needs
 
 pub distinct-keys-spec : {M : Type 1} → statement M
 distinct-keys-spec =
     tie.close
     (tie.spec
-    Inv-loop
-    μ-loop
-    loop-holds
-    get-requires
-    add-next
-    key-among-requires
     returns
-    add-i
-    loop-less
-    loop-again
-    returns-2)
+    sub-count
+    distinct-pairs-requires
+    returns-2
+    distinct-few-requires
+    returns-3
+    distinct-many-requires
+    returns-4
+    distinct-pairs-requires-2
+    returns-5)

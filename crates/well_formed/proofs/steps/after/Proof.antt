@@ -1,4 +1,4 @@
--- What waits, by the kind of the record. Assumes nothing.
+-- The state once a record is read, by its kind. Assumes nothing.
 use Prim.Native.Nat.{ℕ}
 use Rattle.well_formed.proofs.StepLaws.{after-entry}
 use mathlib.Core.Path.{ap₂, _∙_}
@@ -17,8 +17,8 @@ use Rattle.well_formed.proofs.steps.at_demand.Reads as at-demand-reads
 use Rattle.well_formed.proofs.steps.at_entry.Reads as at-entry-reads
 use Rattle.well_formed.proofs.steps.at_line.Reads as at-line-reads
 use Rattle.well_formed.proofs.steps.at_switch.Reads as at-switch-reads
-use Rattle.well_formed.proofs.steps.group_by_sort.Reads as group-by-sort-reads
-use Rattle.well_formed.proofs.steps.reach_of.Reads as reach-of-reads
+use Rattle.well_formed.proofs.forms.group_by_sort.Reads as group-by-sort-reads
+use Rattle.well_formed.proofs.forms.reach_of.Reads as reach-of-reads
 
 add-at-line : tie.Need-add-at-line
 add-at-line c = search needs

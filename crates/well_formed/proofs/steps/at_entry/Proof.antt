@@ -5,7 +5,7 @@ use Rattle.well_formed.proofs.steps.at_entry.Statement.{statement}
 use Rattle.well_formed.proofs.steps.at_entry.Tie as tie
 use Rattle.well_formed.proofs.steps.at_entry.Reads as reads
 use Rattle.well_formed.proofs.steps.at_entry.Lts as lts
-use Rattle.well_formed.proofs.steps.lower.Reads as lower-reads
+use Rattle.well_formed.proofs.forms.lower.Reads as lower-reads
 
 add-t : tie.Need-add-t
 add-t c = search needs

@@ -7,8 +7,8 @@ use Rattle.well_formed.proofs.steps.choice_ok.Statement.{statement}
 use Rattle.well_formed.proofs.steps.choice_ok.Tie as tie
 use Rattle.well_formed.proofs.steps.choice_ok.Reads as reads
 use Rattle.well_formed.proofs.steps.choice_ok.Lts as lts
-use Rattle.well_formed.proofs.steps.may_rise.Reads as may-rise-reads
-use Rattle.well_formed.proofs.steps.tag_ok.Reads as tag-ok-reads
+use Rattle.well_formed.proofs.forms.may_rise.Reads as may-rise-reads
+use Rattle.well_formed.proofs.forms.tag_ok.Reads as tag-ok-reads
 
 returns : tie.Need-returns
 unfolding choiceStep

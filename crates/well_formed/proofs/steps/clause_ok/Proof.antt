@@ -6,7 +6,7 @@ use Rattle.well_formed.proofs.steps.clause_ok.Statement.{statement}
 use Rattle.well_formed.proofs.steps.clause_ok.Tie as tie
 use Rattle.well_formed.proofs.steps.clause_ok.Reads as reads
 use Rattle.well_formed.proofs.steps.clause_ok.Lts as lts
-use Rattle.well_formed.proofs.steps.may_rise.Reads as may-rise-reads
+use Rattle.well_formed.proofs.forms.may_rise.Reads as may-rise-reads
 
 returns : tie.Need-returns
 unfolding clauseStep

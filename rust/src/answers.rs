@@ -1,0 +1,151 @@
+//! Settings, and the archive's numbers taken apart.
+use crate::numbers::{DYNAMIC, EXTENSIBLE, NON_COUNTED, SKIP};
+use std::fmt;
+
+/// Settings of a predicate, the same for its build and all its walks.
+#[derive(Debug, Clone, Copy, PartialEq, Eq, Hash)]
+pub struct Settings {
+    /// Arguments of the predicate, 1 to 32.
+    pub arity: u32,
+    /// Bit i set: argument i + 1 is never indexed on demand. Bits from the arity up are not read.
+    pub mask: u32,
+    /// A predicate whose clauses may change: every bucket is a line of its own.
+    pub dynamic: bool,
+    /// Lines keep a dead table for an argument that some clause leaves open.
+    pub extensible: bool,
+    /// Choice points that inferences do not count: DefaultRetry and DefaultTrust.
+    pub non_counted: bool,
+    /// The variable offset is 2, not 1.
+    pub skip: bool,
+}
+
+impl Settings {
+    /// A static predicate with every argument indexed on demand and all else off.
+    pub const fn new(arity: u32) -> Self {
+        Settings { arity, mask: 0, dynamic: false, extensible: false, non_counted: false, skip: false }
+    }
+
+    /// The flags as the archive takes them.
+    pub const fn flags(&self) -> u32 {
+        let all = [
+            (self.dynamic, DYNAMIC),
+            (self.extensible, EXTENSIBLE),
+            (self.non_counted, NON_COUNTED),
+            (self.skip, SKIP),
+        ];
+        let (mut flags, mut i) = (0, 0);
+        while i < all.len() {
+            if all[i].0 {
+                flags |= all[i].1;
+            }
+            i += 1;
+        }
+        flags
+    }
+}
+
+/// An accepted build.
+#[derive(Debug, Clone, Copy, PartialEq, Eq, Hash)]
+pub struct Built {
+    /// Records of the index.
+    pub count: usize,
+    /// Where a call goes whose chosen argument is unbound: 1, or 2 with skip.
+    pub variable_offset: u32,
+}
+
+impl Built {
+    /// The numbers of [`numbers::build`](crate::numbers::build) taken apart.
+    ///
+    /// # Errors
+    /// The refusal, if they are one's.
+    pub fn from_numbers(result: [u64; 3]) -> Result<Built, Refusal> {
+        match result {
+            [0, count, variable] => Ok(Built { count: count as usize, variable_offset: variable as u32 }),
+            [number, ..] => Err(Refusal(number as u32)),
+        }
+    }
+}
+
+/// How a walk ended.
+#[derive(Debug, Clone, Copy, PartialEq, Eq, Hash)]
+pub enum Case {
+    /// No clause agrees.
+    Fail,
+    /// One clause is left to try.
+    External,
+    /// The clauses of one line.
+    Sequence,
+    /// All clauses: no argument decided.
+    Variadic,
+}
+
+/// An accepted walk.
+#[derive(Debug, Clone, Copy, PartialEq, Eq, Hash)]
+pub struct Walked {
+    /// How it ended.
+    pub case: Case,
+    /// The stored line of a Sequence, else 0.
+    pub line: usize,
+    /// How many of out's first places hold the selected clauses' offsets.
+    pub count: usize,
+    /// Tables looked at.
+    pub tables: usize,
+    /// Whether every expansion of this walk is stored in the index. The answer is the same either way.
+    pub stored: bool,
+    /// The index's new record count: hand it to the next walk.
+    pub records: usize,
+}
+
+impl Walked {
+    /// The numbers of [`numbers::walk`](crate::numbers::walk) taken apart.
+    ///
+    /// # Errors
+    /// The refusal, if they are one's.
+    pub fn from_numbers(result: [u64; 7]) -> Result<Walked, Refusal> {
+        let [0, case, line, count, tables, mark, records] = result else {
+            return Err(Refusal(result[0] as u32));
+        };
+        let case = match case {
+            1 => Case::Fail,
+            2 => Case::External,
+            3 => Case::Sequence,
+            4 => Case::Variadic,
+            other => unreachable!("case {other}"),
+        };
+        let [line, count, tables, records] = [line, count, tables, records].map(|n| n as usize);
+        Ok(Walked { case, line, count, tables, stored: mark == 0, records })
+    }
+}
+
+/// A refusal and its number, the first that applies.
+#[derive(Debug, Clone, Copy, PartialEq, Eq, Hash)]
+pub struct Refusal(pub u32);
+
+impl Refusal {
+    /// What the number says, in words.
+    pub fn reason(self) -> &'static str {
+        match self.0 {
+            1 => "the arity is not 1 to 32",
+            2 => "the chosen argument is 0 or above the arity",
+            3 => "the code is not whole records, or more than 32,768 of them",
+            4 => "no starts, more than 1,024, not strictly rising, or one at or past the code's end",
+            5 => "a clause without a body record",
+            6 => "a keyed record with a wrong field",
+            7 => "a register that is 0, above the arity, or not above that of an earlier key of the clause",
+            8 => "a clause with no key at the chosen argument",
+            9 => "the built index has more records than the buffer has room for",
+            10 => "the call is not one well-made record for each argument",
+            11 => "out has fewer places than there are clauses",
+            12 => "the index is not well formed",
+            _ => "no such number",
+        }
+    }
+}
+
+impl fmt::Display for Refusal {
+    fn fmt(&self, f: &mut fmt::Formatter<'_>) -> fmt::Result {
+        write!(f, "refused {}: {}", self.0, self.reason())
+    }
+}
+
+impl std::error::Error for Refusal {}

@@ -1,0 +1,87 @@
+//! Podrulka for Rust: build an index over compiled Prolog clauses, walk it for calls, ask for a witness.
+//!
+//! The functions are those of the proved archive `libpodrulka.a` (see `include/podrulka.h`), with slices for pointers and
+//! results as types. Every function is total: whatever it is handed, it answers or gives a [`Refusal`] with a number, and a
+//! refusal changes neither index nor out. Nothing is allocated and nothing is kept between calls.
+//!
+//! Code, call and index are bytes, 16 to a [`Record`], numbers little-endian. A call needs about [`STACK`] bytes of stack.
+//!
+//! ```
+//! use podrulka::{build, walk, Case, Record, Settings};
+//!
+//! // p(7). p(8).  Each clause is a key record and a body record.
+//! let code = Record::bytes(&[Record::atom_in(1, 7), Record::BODY, Record::atom_in(1, 8), Record::BODY]);
+//! let (starts, settings) = ([0, 2], Settings::new(1));
+//! let mut index = [0; 64 * 16];
+//! let built = build(&code, &starts, &settings, 1, &mut index).unwrap();
+//!
+//! let mut out = [0; 2];
+//! let call = Record::bytes(&[Record::atom(8)]);
+//! let walked = walk(&code, &starts, &settings, &call, &mut index, built.count, &mut out).unwrap();
+//! assert_eq!((walked.case, &out[..walked.count]), (Case::External, &[3][..]));
+//! ```
+#![deny(missing_docs)]
+#![deny(unsafe_op_in_unsafe_fn)]
+
+mod answers;
+pub mod numbers;
+mod records;
+
+pub use answers::{Built, Case, Refusal, Settings, Walked};
+pub use records::Record;
+
+/// Bytes of a record of code, call or index.
+pub const RECORD: usize = 16;
+/// Most arguments of a predicate.
+pub const MAX_ARITY: u32 = 32;
+/// Most clauses of a predicate.
+pub const MAX_CLAUSES: usize = 1024;
+/// Most records of code.
+pub const MAX_CODE: usize = 32768;
+/// Most records of an index; of a longer buffer no more are used.
+pub const MAX_INDEX: usize = 65535;
+/// Bytes of stack that are enough for every call.
+pub const STACK: usize = 524288;
+
+/// Builds the index of the clauses of `code` that begin at `starts` (numbers of records), with its first switch on
+/// argument `c`, counted from 1. Bytes of `index` beyond the built records are left as they were.
+///
+/// # Errors
+/// Numbers 1 to 9; `index` is then unchanged.
+pub fn build(code: &[u8], starts: &[u32], settings: &Settings, c: u64, index: &mut [u8]) -> Result<Built, Refusal> {
+    Built::from_numbers(numbers::build(code, starts, settings.arity, settings.mask, settings.flags(), c, index))
+}
+
+/// Walks the first `count` records of `index` for a call, one record for each argument. `code`, `starts` and `settings`
+/// are those that the index was built with. Tables are expanded on demand while there is room. The offsets of the
+/// selected clauses go to the first places of `out`, in source order; its other places are left as they were. Hand
+/// [`Walked::records`] to the next walk.
+///
+/// # Errors
+/// Numbers 1, 3 to 7 and 10 to 12; `index` and `out` are then unchanged and the earlier count still holds.
+pub fn walk(
+    code: &[u8],
+    starts: &[u32],
+    settings: &Settings,
+    call: &[u8],
+    index: &mut [u8],
+    count: usize,
+    out: &mut [u32],
+) -> Result<Walked, Refusal> {
+    let (arity, mask, flags) = (settings.arity, settings.mask, settings.flags());
+    Walked::from_numbers(numbers::walk(code, starts, arity, mask, flags, call, index, count, out))
+}
+
+/// From code and call alone: the offset (start plus 1) of some clause that agrees with the call at every argument, `None`
+/// if no clause does.
+///
+/// # Errors
+/// Numbers 1, 3 to 7 and 10.
+pub fn witness(code: &[u8], starts: &[u32], settings: &Settings, call: &[u8]) -> Result<Option<u32>, Refusal> {
+    let (arity, mask, flags) = (settings.arity, settings.mask, settings.flags());
+    match numbers::witness(code, starts, arity, mask, flags, call) {
+        [0, 0] => Ok(None),
+        [0, offset] => Ok(Some(offset as u32)),
+        [number, _] => Err(Refusal(number as u32)),
+    }
+}
