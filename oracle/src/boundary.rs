@@ -5,6 +5,7 @@ use crate::damage::Handed;
 use crate::programs;
 use crate::random::all_three;
 use crate::restated::{Key, Program, check_code};
+use crate::shown;
 use crate::small::{LIST, atom, built, call, program, show, structure, walked};
 use crate::tally::Tally;
 use crate::with_rust::{self, FILL};
@@ -19,16 +20,21 @@ pub fn run(tally: &mut Tally) -> Result<(), Difference> {
     handed_in_sizes(tally)
 }
 
+/// A difference with the program that it was found in.
+fn of(p: &Program) -> impl Fn(Difference) -> Difference {
+    move |difference| format!("{difference}\n{}", shown::program(p))
+}
+
 /// Build, walk and witness of a program on its own index; gives the builder's number.
 fn all(p: &Program, call: &[u8], tally: &mut Tally) -> Result<u32, Difference> {
     tally.boundary += 1;
-    let (index, number) = match with_rust::build(p, 1 << 20, tally)? {
+    let (index, number) = match with_rust::build(p, 1 << 20, tally).map_err(of(p))? {
         Ok(fresh) => (fresh.index, 0),
         Err(number) => (vec![FILL; 64], number),
     };
     let (count, out) = (index.len() / 16, p.starts.len());
     let mut handed = Handed { program: p.clone(), call: call.to_vec(), room: index.len(), index, count, out };
-    all_three(&mut handed, tally)?;
+    all_three(&mut handed, tally).map_err(of(p))?;
     Ok(number)
 }
 
@@ -80,7 +86,7 @@ fn some_walks(p: &Program, tally: &mut Tally) -> Result<(), Difference> {
     for keys in
         [[None, None], [None, LIST], [None, atom(1)], [LIST, atom(0)], [structure(0, 2), atom(2)], [atom(6), LIST]]
     {
-        walked(p, &mut fresh, &call(&keys), tally)?;
+        walked(p, &mut fresh, &call(&keys), tally).map_err(of(p))?;
     }
     Ok(())
 }
@@ -148,7 +154,7 @@ fn built_sizes(tally: &mut Tally) -> Result<(), Difference> {
                     let mut keys = vec![None; 32];
                     keys[0] = atom(0);
                     keys[1] = atom(1); // an expansion that exceeds the limit
-                    walked(&p, &mut fresh, &call(&keys), tally)?;
+                    walked(&p, &mut fresh, &call(&keys), tally).map_err(of(&p))?;
                     same("records", fresh.index.len(), 16 * size)?;
                     0
                 }
@@ -199,6 +205,7 @@ fn with_stray_lines(index: &[u8], count: usize) -> Vec<u8> {
 pub fn large(seeds: u64, tally: &mut Tally) -> Result<(), Difference> {
     for seed in 0..seeds {
         let chance = &mut Chance::new(seed);
+        original::set_order(seed);
         let size = programs::Size { clauses: 1_024, bits: chance.pick(&[2, 50, 5_000]) };
         let p = programs::program(chance, size);
         tally.boundary += 1;
@@ -208,7 +215,7 @@ pub fn large(seeds: u64, tally: &mut Tally) -> Result<(), Difference> {
         let read = check_code(&p).map_err(|number| format!("restatement refuses with {number}"))?;
         for _ in 0..4 {
             let call = programs::call(chance, &p, &read, 50);
-            walked(&p, &mut fresh, &call, tally)?;
+            walked(&p, &mut fresh, &call, tally).map_err(of(&p))?;
         }
     }
     Ok(())

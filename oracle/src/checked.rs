@@ -1,14 +1,15 @@
 //! One call of the archive, compared in every number and byte with the restatement.
+use crate::lent::Lent;
 use crate::restated::{self, Built, Program, Walked};
 use crate::tally::Tally;
 use podrulka::{Record, Refusal, numbers};
 use std::fmt::Debug;
 
-/// A difference, in words.
-pub type Difference = String;
-
 /// What out's places hold before a walk.
 const OUT: u32 = 0xdead_beef;
+
+/// A difference, in words.
+pub type Difference = String;
 
 pub fn same<T: PartialEq + Debug>(what: &str, ours: T, theirs: T) -> Result<(), Difference> {
     if ours == theirs { Ok(()) } else { Err(format!("{what}: here {ours:?}, there {theirs:?}")) }
@@ -46,7 +47,11 @@ fn refused<const N: usize>(what: &str, result: [u64; N], number: u32, tally: &mu
 /// Runs the builder; the answer is the restatement's, found equal.
 pub fn build(p: &Program, index: &mut [u8], tally: &mut Tally) -> Result<Result<Built, u32>, Difference> {
     let before = index.to_vec();
-    let result = numbers::build(&p.code, &p.starts, p.arity, p.mask, p.flags, p.c, index);
+    let shift = index.len() + p.starts.len();
+    let (code, mut lent) = (Lent::of(&p.code, shift / 3), Lent::of(index, shift));
+    let result = numbers::build(&code, &p.starts, p.arity, p.mask, p.flags, p.c, &mut lent);
+    index.copy_from_slice(&lent);
+    same("bytes around the index", lent.alone(), true)?;
     let expected = restated::build(p, index.len());
     match &expected {
         Err(number) => {
@@ -77,8 +82,16 @@ pub fn walk(
 ) -> Result<Result<Walked, u32>, Difference> {
     let expected = restated::walk(p, call, index, count, out);
     let before = index.to_vec();
-    let mut out = vec![OUT; out];
-    let result = numbers::walk(&p.code, &p.starts, p.arity, p.mask, p.flags, call, index, count, &mut out);
+    let shift = index.len() + p.starts.len() + out;
+    let (code, call, mut lent) = (Lent::of(&p.code, shift / 2), Lent::of(call, shift / 3), Lent::of(index, shift));
+    let mut places = vec![OUT; out + 2]; // one more on either side
+    let out = 1..out + 1;
+    let out_lent = &mut places[out.clone()];
+    let result = numbers::walk(&code, &p.starts, p.arity, p.mask, p.flags, &call, &mut lent, count, out_lent);
+    index.copy_from_slice(&lent);
+    same("bytes around the index", lent.alone(), true)?;
+    same("places around out", (places[0], places[out.end]), (OUT, OUT))?;
+    let out = &places[out];
     match &expected {
         Err(number) => {
             refused("walk", result, *number, tally)?;

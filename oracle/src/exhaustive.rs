@@ -1,6 +1,7 @@
 //! Small inputs, all of them.
 use crate::checked::{self, Difference, same};
 use crate::restated::{Key, Program};
+use crate::shown;
 use crate::small::{LIST, atom, built, call, integer, program, show, structure, walked};
 use crate::tally::Tally;
 use crate::with_rust::{self, FILL, same_answer};
@@ -10,6 +11,7 @@ pub fn run(tally: &mut Tally) -> Result<(), Difference> {
     code_records(tally)?;
     call_records(tally)?;
     index_bytes(tally)?;
+    on_demand_lines(tally)?;
     programs(tally)
 }
 
@@ -97,6 +99,39 @@ fn bytes_of(p: &Program, index: &[u8], call: &[u8], tally: &mut Tally) -> Result
     Ok(())
 }
 
+/// Handed-in indexes of one line with all three arguments on demand, over all programs of two and three clauses of a few
+/// keys and open ones, at every capacity up to some records more: expansions to dead tables that fit or do not, with others
+/// after them that would.
+fn on_demand_lines(tally: &mut Tally) -> Result<(), Difference> {
+    let calls: Vec<Vec<u8>> = choices(3, &[None, atom(1)]).iter().map(|choice| call(choice)).collect();
+    for (clauses, keys) in [(2, &[None, atom(1), LIST][..]), (3, &[None, atom(1)])] {
+        for choice in choices(3 * clauses, keys) {
+            for flags in 0..4 {
+                let p = program(&choice.chunks(3).collect::<Vec<_>>(), 3, flags, 1);
+                tally.exhaustive += 1;
+                on_demand_line(&p, &calls, tally).map_err(|d| format!("{d}\n{}", shown::program(&p)))?;
+            }
+        }
+    }
+    Ok(())
+}
+
+fn on_demand_line(p: &Program, calls: &[Vec<u8>], tally: &mut Tally) -> Result<(), Difference> {
+    let tag = if p.dynamic() { 6 } else { 1 };
+    let mut records = vec![Record::new(1, p.dynamic() as u8, 0, 0, 0)];
+    records.extend((1..=3).map(|argument| Record::new(3, 0, argument, 0, 0)));
+    records.extend(p.starts.iter().map(|start| Record::new(6, tag, 0, start + 1, 0)));
+    for call in calls {
+        for more in 0..6 {
+            let mut index = Record::bytes(&records);
+            index.resize(16 * (records.len() + more), FILL);
+            let walked = with_rust::walk_handed_in(p, call, &mut index, records.len(), 3, tally)?;
+            same("whether the index is well formed", walked.is_ok(), true)?;
+        }
+    }
+    Ok(())
+}
+
 /// All programs of one to three clauses over a few keys, with all flags, and all calls over these keys.
 fn programs(tally: &mut Tally) -> Result<(), Difference> {
     let seven = [None, atom(1), atom(2), integer(1), structure(1, 1), structure(1, 2), LIST];
@@ -146,6 +181,7 @@ fn choices(length: usize, keys: &[Option<Key>]) -> Vec<Vec<Option<Key>>> {
 /// The build, and each call on the fresh index: with room, made again, and with no room to expand. The walk does not read
 /// skip, so with it only the build is looked at.
 fn one_program(p: &Program, calls: &[Vec<u8>], tally: &mut Tally) -> Result<(), Difference> {
+    original::set_order(tally.exhaustive);
     let fresh = built(p, 1 << 11, tally)?;
     if p.skip() {
         return Ok(());

@@ -5,12 +5,14 @@ mod chance;
 mod checked;
 mod damage;
 mod exhaustive;
+mod lent;
 mod programs;
 mod random;
 mod reshape;
 mod restated;
 mod shown;
 mod small;
+mod switches;
 mod tally;
 mod with_rust;
 
@@ -63,6 +65,7 @@ fn run(walks: u64, seed: u64, part: &str, tally: &mut Tally) -> Result<(), Diffe
     }
     if wanted("boundary") {
         timed("boundary", tally, boundary::run)?;
+        timed("boundary, large switches", tally, switches::run)?;
         timed("boundary, 1,024 clauses", tally, |tally| boundary::large(40, tally))?;
     }
     if wanted("random") {

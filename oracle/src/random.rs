@@ -174,7 +174,7 @@ fn handed_in(
     reshape(chance, &stuff, &mut lines);
     let mut index = written(&lines, p.dynamic());
     let mut count = index.len() / 16;
-    let more = chance.pick(&[0, 16, 60, 200, 2000]);
+    let more = if chance.percent(50) { 2000 } else { chance.below(160) };
     index.resize(index.len() + more, FILL);
     for _ in 0..3 {
         let call = &calls[chance.below(calls.len())];

@@ -14,8 +14,9 @@ pub struct Stuff<'a> {
 pub fn reshape(chance: &mut Chance, stuff: &Stuff, lines: &mut Vec<Line>) {
     for _ in 0..chance.within(1, 6) {
         let at = chance.below(lines.len());
-        match chance.below(7) {
+        match chance.below(8) {
             0 => stray_line(chance, stuff, lines),
+            7 => on_demand(stuff, &mut lines[at]),
             1 | 2 => offsets(chance, stuff, &mut lines[at].offsets),
             3 => add_table(chance, stuff, lines, at),
             _ => table(chance, stuff, lines, at),
@@ -64,6 +65,12 @@ fn add_table(chance: &mut Chance, stuff: &Stuff, lines: &mut [Line], at: usize) 
     }
     let new = any_table(chance, stuff, lines, at, argument);
     lines[at].tables.insert(place, new);
+}
+
+/// The line's tables from its first argument on are all on demand, also over clauses without a key.
+fn on_demand(stuff: &Stuff, line: &mut Line) {
+    let first = line.tables.first().map_or(1, Table::argument);
+    line.tables = (first..=stuff.arity).map(|argument| Table::OnDemand { argument }).collect();
 }
 
 fn any_table(chance: &mut Chance, stuff: &Stuff, lines: &[Line], at: usize, argument: usize) -> Table {

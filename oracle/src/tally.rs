@@ -90,7 +90,7 @@ impl fmt::Display for Tally {
             n(self.witnesses_none),
             n(self.witnesses_refused)
         )?;
-        writeln!(f, "records     {} of indexes compared", n(self.records))?;
+        writeln!(f, "records     {} of indexes compared with the Rust's", n(self.records))?;
         let refusals: Vec<String> = (1..=12).map(|i| format!("{i}: {}", n(self.refused[i]))).collect();
         write!(f, "refusals    {}", refusals.join("  "))
     }

@@ -149,3 +149,30 @@ impl fmt::Display for Refusal {
 }
 
 impl std::error::Error for Refusal {}
+
+#[cfg(test)]
+mod tests {
+    use super::*;
+
+    /// The flags' values are those of `enum podrulka_flag`.
+    #[test]
+    fn flags_of_settings() {
+        let off = Settings::new(3);
+        assert_eq!(off.flags(), 0);
+        assert_eq!(Settings { dynamic: true, ..off }.flags(), 1);
+        assert_eq!(Settings { extensible: true, ..off }.flags(), 2);
+        assert_eq!(Settings { non_counted: true, ..off }.flags(), 4);
+        assert_eq!(Settings { skip: true, ..off }.flags(), 8);
+        assert_eq!(Settings { dynamic: true, extensible: true, non_counted: true, skip: true, ..off }.flags(), 15);
+    }
+
+    /// Each number goes to its field, and a refusal's to the refusal.
+    #[test]
+    fn numbers_taken_apart() {
+        let walked = Walked { case: Case::Sequence, line: 1, count: 2, tables: 4, stored: false, records: 5 };
+        assert_eq!(Walked::from_numbers([0, 3, 1, 2, 4, 1, 5]), Ok(walked));
+        assert_eq!(Walked::from_numbers([12, 0, 0, 0, 0, 0, 0]), Err(Refusal(12)));
+        assert_eq!(Built::from_numbers([0, 12, 2]), Ok(Built { count: 12, variable_offset: 2 }));
+        assert_eq!(Built::from_numbers([9, 0, 0]), Err(Refusal(9)));
+    }
+}

@@ -1,6 +1,6 @@
 //! Document 01 said once more, in plain Rust over lists: the checks, the builder, the walk and the witness as functions
-//! from what a call is handed to what it must give back. Written from the document and docs/DECISIONS.md, with no look at
-//! how the archive or the original files do it; nothing here is fast.
+//! from what a call is handed to what it must give back. Written after the words of the document and of docs/DECISIONS.md;
+//! nothing here is fast.
 mod checks;
 mod expansion;
 pub mod index;
