@@ -214,6 +214,23 @@ static struct record new_record(const struct program *p, uint8_t b, uint8_t c) {
     return r;
 }
 
+/* Entries of a switch, at place i: from 2 to 1,100 of them with the multiples of a number as their keys, so that they fall into buckets of
+ * their own or all into one; b bit 7: the last has the first one's key. Gives back how many. */
+static size_t add_entries(const struct program *p, uint8_t *index, size_t count, size_t i, uint8_t b, uint8_t c) {
+    static const size_t runs[] = { 2, 31, 33, 40, 70, 150, 1023, 1100 };
+    static const uint64_t steps[] = { 1, 1021, 16381, 4294967291 };
+    size_t n = runs[b & 7];
+    if (count + n + 1 >= MAX_INDEX) return 0;
+    memmove(index + RECORD * (i + n), index + RECORD * i, RECORD * (count - i));
+    for (size_t k = 0; k < n; k++) {
+        struct record r = { 5, (uint8_t)(1 + (b >> 5 & 3)), 0, 0, steps[b >> 3 & 3] * (k == n - 1 && b >> 7 ? 1 : k + 1) };
+        r.half = r.sub == PODRULKA_STRUCTURE;
+        r.word = c & 0x80 ? 0x80000000u | (c & 0x7f) : start_of(p, c);
+        put(index + RECORD * (i + k), r);
+    }
+    return n;
+}
+
 /* fields of one record */
 static struct record edited(const struct program *p, struct record r, const uint8_t *e) {
     switch (e[0] & 15) {
@@ -239,7 +256,9 @@ size_t edit_index(const struct input *in, const struct program *p, uint8_t *inde
         size_t i = count ? e[1] % (count + 1) : 0, j = count ? e[2] % count : 0;
         uint8_t *at = index + RECORD * i, other[RECORD];
         memcpy(other, index + RECORD * j, RECORD);
-        if (e[0] & 0x20 && !(e[0] & 0x10)) { /* a record more, at i */
+        if ((e[0] & 0x3c) == 0x24) {
+            count += add_entries(p, index, count, i, e[2], e[3]);
+        } else if (e[0] & 0x20 && !(e[0] & 0x10)) { /* a record more, at i */
             if (count + 1 >= MAX_INDEX) continue;
             memmove(at + RECORD, at, RECORD * (count++ - i));
             if (e[0] & 8) memcpy(at, other, RECORD);

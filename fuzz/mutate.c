@@ -55,8 +55,10 @@ static size_t add_item(uint8_t *data, size_t size, size_t max_size) {
 }
 
 /* Very large buffers make an execution a hundred times slower, so of their descendants few keep them. */
-static void seldom_large(uint8_t *data) {
+static void seldom_large(uint8_t *data, size_t size) {
     if (upto(64) == 0) return;
+    for (size_t at = HEAD; at + ITEM <= size; at += ITEM)
+        if ((data[at] & 0xfc) == 0xe4 && (data[at + 2] & 6) == 6) data[at + 2] &= 0xfb; /* more than 1,000 entries */
     if (data[AT_COPIES] >= 224 && data[AT_COPIES] % 8 >= 4) data[AT_COPIES] = (uint8_t)upto(240);
     if (data[AT_ROOM] >= 253) data[AT_ROOM] = (uint8_t)upto(240);
     if (data[AT_LONG_CODE] >= 250) data[AT_LONG_CODE] = 0;
@@ -76,6 +78,6 @@ static size_t change(uint8_t *data, size_t size, size_t max_size) {
 size_t LLVMFuzzerCustomMutator(uint8_t *data, size_t size, size_t max_size, unsigned int seed) {
     state = seed;
     size = change(data, size, max_size);
-    if (size >= HEAD) seldom_large(data);
+    if (size >= HEAD) seldom_large(data, size);
     return size;
 }

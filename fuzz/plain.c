@@ -1,5 +1,6 @@
 /* Keys, refusal numbers and well-formed indexes in plain C. The sections are document 01's. */
 #include "plain.h"
+#include <string.h>
 
 enum { BODY, PROLOGUE, ARGLESS, STRUCTURE, LIST, CONSTANT, PARTIAL_STRING };
 
@@ -189,16 +190,17 @@ static bool entry_ok(struct record r) {
 /* literals, list, structures */
 static int group(struct record r) { return r.sub <= PODRULKA_FLOAT ? 1 : r.sub == PODRULKA_LIST ? 2 : 3; }
 
+/* sort, arity and bits of two records */
+static bool same_fields(const uint8_t *a, const uint8_t *b) { return a[1] == b[1] && !memcmp(a + 2, b + 2, 2) && !memcmp(a + 8, b + 8, 8); }
+
 static bool entries_ok(struct index *x, size_t n, uint32_t a) {
     size_t first = x->at;
     for (; peek(x, x->at).kind == ENTRY; x->at++) {
         struct record r = peek(x, x->at);
         if (!entry_ok(r) || !pointer_ok(x, n, a, r.word)) return false;
         if (x->at > first && group(r) < group(peek(x, x->at - 1))) return false;
-        for (size_t j = first; j < x->at; j++) {
-            struct record s = peek(x, j);
-            if (s.sub == r.sub && s.half == r.half && s.bits == r.bits) return false;
-        }
+        for (size_t j = first; j < x->at; j++)
+            if (same_fields(x->bytes + RECORD * j, x->bytes + RECORD * x->at)) return false;
     }
     return true;
 }

@@ -125,6 +125,21 @@ static size_t full_index(void) {
     return most;
 }
 
+/* a switch of so many entries, their keys the multiples of a number: they fall into buckets of their own or all into one */
+static size_t wide_switch(size_t entries, uint64_t step, const char *what) {
+    flags = 0;
+    make_clauses(1, 1, 2);
+    index_len = (entries + 3) * RECORD;
+    index_at = fence_take(INDEX, index_len, false);
+    count = 0;
+    put(index_at + RECORD * count++, (struct record){ 1, 0, 0, 0, 0 });
+    put(index_at + RECORD * count++, (struct record){ 2, 0, 1, 0, 0 });
+    while (count < entries + 2) put(index_at + RECORD * count, (struct record){ 5, 1, 0, starts[0] + 1, step * count }), count++;
+    put(index_at + RECORD * count++, (struct record){ 6, 1, 0, starts[0] + 1, 0 });
+    bind(1, step * (entries + 1));
+    return measure(WALK, what);
+}
+
 /* 1,024 clauses, 32,768 code records, the call expands a table at every argument */
 static size_t deep_walk(size_t room, uint32_t mode) {
     size_t most;
@@ -148,6 +163,9 @@ int main(void) {
     result = fence_take(RESULT, PODRULKA_WALKED_PLACES * sizeof *result, false);
     measure(NOTHING, "the thread itself");
     most = full_index();
+    most = larger(most, wide_switch(MOST - 3, 1, "a switch of 65,532 entries"));
+    most = larger(most, wide_switch(2000, 4294967291, "a switch of 2,000 entries, all in one bucket"));
+    most = larger(most, wide_switch(1024, 1021, "a switch of 1,024 entries, all in one bucket"));
     for (uint32_t mode = 0; mode < 4; mode++)
         for (int k = 0; k < 3; k++) most = larger(most, deep_walk(rooms[k], mode));
     fence_drop();
