@@ -76,7 +76,7 @@ enum podrulka_sort {
 enum podrulka_built {
     PODRULKA_BUILT_NUMBER = 0,
     PODRULKA_BUILT_COUNT = 1,    /* records of the index */
-    PODRULKA_BUILT_VARIABLE = 2, /* the variable offset: where a call goes whose chosen argument is unbound */
+    PODRULKA_BUILT_VARIABLE = 2, /* the variable offset: 1, or 2 with PODRULKA_SKIP */
     PODRULKA_BUILT_PLACES = 3
 };
 
@@ -94,10 +94,10 @@ enum podrulka_walked {
 
 /* the cases of an accepted walk */
 enum podrulka_case {
-    PODRULKA_FAIL = 1,     /* no clause agrees */
+    PODRULKA_FAIL = 1,     /* nothing is left to try */
     PODRULKA_EXTERNAL = 2, /* one clause is left to try */
     PODRULKA_SEQUENCE = 3, /* the clauses of one line */
-    PODRULKA_VARIADIC = 4  /* all clauses: no argument decided */
+    PODRULKA_VARIADIC = 4  /* the clauses of line 0, in a built index all: no argument decided */
 };
 
 /* the places of a witness's result */
@@ -118,7 +118,9 @@ uint32_t podrulka_build(const uint8_t *code, size_t code_len, const uint32_t *st
 /* Walks the index's first count records for a call: one record for each argument (kind 0, sub the sort, half a
  * structure's arity, word 0, long the bits). code, starts, arity, mask and flags are those that the index was built
  * with. Tables are expanded on demand while there is room. The offsets of the selected clauses go to out's first
- * places, in source order; its other places are left as they were. Every clause that agrees with the call is selected.
+ * places, in source order; its other places are left as they were. On an index that podrulka_build made for this code
+ * and these settings and that only walks have written since, every clause that agrees with the call is selected, once,
+ * and the case is Fail only if none agrees. An index from elsewhere is only checked to be well formed: it may leave out clauses.
  * Returns 0 or one of 1, 3 to 7, 10, 11, 12. */
 uint32_t podrulka_walk(const uint8_t *code, size_t code_len, const uint32_t *starts, size_t starts_len,
                        uint32_t arity, uint32_t mask, uint32_t flags, const uint8_t *call, size_t call_len,

@@ -49,7 +49,7 @@ impl Settings {
 pub struct Built {
     /// Records of the index.
     pub count: usize,
-    /// Where a call goes whose chosen argument is unbound: 1, or 2 with skip.
+    /// The variable offset: 1, or 2 with skip.
     pub variable_offset: u32,
 }
 
@@ -69,7 +69,7 @@ impl Built {
 /// How a walk ended.
 #[derive(Debug, Clone, Copy, PartialEq, Eq, Hash)]
 pub enum Case {
-    /// No clause agrees.
+    /// Nothing is left to try; on an index built here no clause agrees.
     Fail,
     /// One clause is left to try.
     External,
