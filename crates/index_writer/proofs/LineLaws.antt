@@ -8,7 +8,9 @@ use Rattle.records.specs.declared.Rec.{Rec}
 use Rattle.records.specs.Records.{rec}
 use Rattle.indexing_iter.specs.declared.Settings.{Settings}
 use Rattle.indexing.specs.Upto.{one, countTo, anyTo, listTo}
-use Rattle.indexing.specs.Columns.{member, sizeOf, maskedAt, openMember, deadClauses, tableAt, tablesAt, tagAt, choiceAt, choices, opensLine, linesTo, emptyList, listLines, lineOf, lineAt, groupLines, listLine, newLinesRecs, seedRecs}
+use Rattle.indexing.specs.Lines.{modeOf}
+use Rattle.indexing.specs.Build.{maskedAt}
+use Rattle.indexing.specs.Columns.{member, sizeOf, openMember, deadClauses, tableAt, tablesAt, tagAt, choiceAt, choices, opensLine, linesTo, emptyList, listLines, lineOf, lineAt, groupLines, listLine, newLinesRecs, seedRecs}
 use Rattle.index_writer.proofs.Upto.{list-count, list-more}
 
 -- a choice between a list and none
@@ -104,12 +106,12 @@ module _ (leaders opens offs tags : List ℕ) (S : Settings) (arg i : ℕ) where
   length-rest = length-append tablesOf choicesOf ∙ ap (λ (x : ℕ). length tablesOf + x) (length-choices leaders offs tags (S .dynamic) (S .«non_counted») i)
 
   pub line-parts : (heads : List ℕ) (number : ℕ)
-      → ([] ++ (rec 1 (one (S .dynamic)) 0 number 0 ∷ [])) ++ restOf ≡ lineOf leaders heads opens offs tags S arg number i
+      → ([] ++ (rec 1 (modeOf (S .dynamic)) 0 number 0 ∷ [])) ++ restOf ≡ lineOf leaders heads opens offs tags S arg number i
   unfolding lineOf
   line-parts heads number = refl
 
 pub seed-parts : (zeros opens offs tags : List ℕ) (S : Settings) (arg : ℕ)
-    → (([] ++ (rec 1 (one (S .dynamic)) 0 0 0 ∷ [])) ++ (rec 3 0 arg 0 0 ∷ [])) ++ restOf zeros opens offs tags S arg 0 ≡ seedRecs zeros opens offs tags S arg
+    → (([] ++ (rec 1 (modeOf (S .dynamic)) 0 0 0 ∷ [])) ++ (rec 3 0 arg 0 0 ∷ [])) ++ restOf zeros opens offs tags S arg 0 ≡ seedRecs zeros opens offs tags S arg
 unfolding seedRecs
 seed-parts zeros opens offs tags S arg = refl
 

@@ -10,10 +10,6 @@ use Rattle.records.specs.declared.Rec.{Rec}
 use Rattle.indexing_iter.specs.Clauses.{known}
 use Rattle.indexing.specs.Upto.{one, listTo}
 
--- the offsets of offset records
-unfoldable pub wordsOf : List Rec → List ℕ
-wordsOf rs = map (λ r. r .word) rs
-
 -- the tags of offset records
 unfoldable pub subsOf : List Rec → List ℕ
 subsOf rs = map (λ r. r .sub) rs

@@ -12,8 +12,8 @@ ghost use Rattle.indexing_iter.specs.Clauses.{keyOf, known, offsetsOf};
 ghost use Rattle.indexing_iter.specs.declared.Checked.{Checked};
 ghost use Rattle.indexing_iter.specs.Checks.{checkCode};
 ghost use Rattle.indexing.specs.Upto.{one};
-ghost use Rattle.indexing.specs.Columns.{sameAt, leaderOf, leadersTo, sizesTo, headsTo, bitsTo, openRow, opensTo};
-ghost use Rattle.index_writer.specs.Choices.{wordsOf, subsOf, AllBelow, AllKnown, openNumbers};
+ghost use Rattle.indexing.specs.Columns.{wordsOf, sameAt, leaderOf, leadersTo, sizesTo, headsTo, bitsTo, openRow, opensTo};
+ghost use Rattle.index_writer.specs.Choices.{subsOf, AllBelow, AllKnown, openNumbers};
 ghost use Rattle.indexing.specs.Expanding.{ColumnsOf};
 
 // A key as two numbers: its sort and arity in one, and its bits.

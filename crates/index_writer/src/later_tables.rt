@@ -10,15 +10,7 @@ ghost use lib.ListN.{length, getD};
 ghost use Rattle.records.specs.Records.{rec, recordsOf, Wrote};
 ghost use Rattle.records.specs.Moves.{written};
 ghost use Rattle.indexing.specs.Upto.{countTo, anyTo};
-ghost use Rattle.indexing.specs.Columns.{maskedAt, openMember, deadClauses, tableAt, tablesAt, deadRecs};
-
-// Whether bit b - 1 of the mask is set: argument b is never indexed on demand.
-fn masked(mask: u32, b: u32) -> bool
-    requires { ⌜ (1 ≤ b) × (b ≤ 32) ⌝ }
-    ensures { λ r. ⌜ r ≡ maskedAt mask b ⌝ }
-{
-    (mask >> (b - 1)) % 2 == 1
-}
+ghost use Rattle.indexing.specs.Columns.{openMember, deadClauses, tableAt, tablesAt, deadRecs};
 
 // Whether clause j is in the bucket that clause i leads and has no key at argument b.
 fn open_member(leaders: &[u32], opens: &[u8], i: usize, b: u32, j: usize) -> bool
@@ -142,7 +134,7 @@ fn put_table(index: &mut [u8], p: usize, leaders: &[u32], opens: &[u8], offs: &[
     ensures { λ r. ⌜ r ≡ p + length (tableAt (now (leaders .entry)) (now (opens .entry)) (now (offs .entry)) mask extensible i b) ⌝ }
     ensures { λ _. ⌜ Wrote (now (index .entry)) (now (index .exit)) (written (recordsOf (now (index .entry))) p (tableAt (now (leaders .entry)) (now (opens .entry)) (now (offs .entry)) mask extensible i b)) ⌝ }
 {
-    if masked(mask, b) {
+    if indexing::masked(mask, b) {
         return p;
     }
     if any_open(leaders, opens, i, b) {
@@ -189,7 +181,7 @@ fn table_room(leaders: &[u32], opens: &[u8], mask: u32, extensible: bool, i: usi
     ensures { λ r. ⌜ ((offs : List ℕ) → r ≡ length (tableAt (now (leaders .entry)) (now (opens .entry)) offs mask extensible i b)) ⌝ }
     ensures { λ r. ⌜ r ≤ 1025 ⌝ }
 {
-    if masked(mask, b) {
+    if indexing::masked(mask, b) {
         return 0;
     }
     if any_open(leaders, opens, i, b) {

@@ -11,15 +11,7 @@ ghost use Prim.Native.Nat.{_+_, _-_, _*_, _≤_, _<_};
 ghost use lib.ListN.{length};
 ghost use Rattle.records.specs.Records.{recordsOf, Wrote};
 ghost use Rattle.records.specs.Moves.{written};
-ghost use Rattle.indexing.specs.Upto.{one};
 ghost use Rattle.indexing.specs.Columns.{sizesTo, tablesAt, choices, lineOf, lineAt, groupLines, listLine, newLinesRecs, seedRecs};
-
-// A line's sub: 1 where it is dynamic.
-fn mode(dynamic: bool) -> u8
-    ensures { λ r. ⌜ r ≡ one dynamic ⌝ }
-{
-    if dynamic { 1 } else { 0 }
-}
 
 // Writes what stands behind the line record of the bucket that clause i leads: the tables for the arguments after arg, and the offsets.
 fn put_rest(index: &mut [u8], p: usize, leaders: &[u32], opens: &[u8], offs: &[u32], tags: &[u8], settings: Settings, arg: u32, i: usize) -> usize
@@ -47,7 +39,7 @@ fn put_line(index: &mut [u8], p: usize, leaders: &[u32], opens: &[u8], offs: &[u
     ensures { λ r. ⌜ r ≡ p + length (lineOf (now (leaders .entry)) [] (now (opens .entry)) (now (offs .entry)) (now (tags .entry)) settings arg number i) ⌝ }
     ensures { λ _. ⌜ Wrote (now (index .entry)) (now (index .exit)) (written (recordsOf (now (index .entry))) p (lineOf (now (leaders .entry)) [] (now (opens .entry)) (now (offs .entry)) (now (tags .entry)) settings arg number i)) ⌝ }
 {
-    let sub = mode(settings.dynamic);
+    let sub = indexing::mode_of(settings.dynamic);
     records::put(
         index,
         p,
@@ -70,7 +62,7 @@ pub fn put_seed(index: &mut [u8], zeros: &[u32], opens: &[u8], offs: &[u32], tag
     ensures { λ r. ⌜ r ≡ length (seedRecs (now (zeros .entry)) (now (opens .entry)) (now (offs .entry)) (now (tags .entry)) settings arg) ⌝ }
     ensures { λ _. ⌜ Wrote (now (index .entry)) (now (index .exit)) (written (recordsOf (now (index .entry))) 0 (seedRecs (now (zeros .entry)) (now (opens .entry)) (now (offs .entry)) (now (tags .entry)) settings arg)) ⌝ }
 {
-    let sub = mode(settings.dynamic);
+    let sub = indexing::mode_of(settings.dynamic);
     records::put(
         index,
         0,

@@ -18,7 +18,7 @@ use Rattle.indexing.specs.Upto.{anyTo}
 use Rattle.indexing.specs.Columns.{openMember, deadRecs, switchRecs, newLinesRecs, seedRecs}
 use Rattle.indexing.specs.Expanding.{headsAt, bitsAt, leadersAt, opensOf, zerosOf, blockRecs, moreRecs, linesMade, moreLines}
 use Rattle.indexing.specs.Lines.{onDemand, dead, Choice, Line, Index, lineAt, offs, find, tableRecs, records, modeOf, size}
-use Rattle.indexing.specs.Build.{Program, openAt, literals, lists, structures, linesFor}
+use Rattle.indexing.specs.Build.{Program, programBy, openAt, literals, lists, structures, linesFor}
 use Rattle.indexing.specs.Expand.{initial, expanded, added, expand, seed, build}
 use Rattle.indexing.proofs.Built.{seed-clauses, seed-demand, seed-length}
 use Rattle.indexing.proofs.Tests.{eqb-same}
@@ -28,7 +28,7 @@ use Rattle.indexing.proofs.Size.{length-records}
 use Rattle.indexing.proofs.BridgeColumns.{InRange}
 use Rattle.indexing.proofs.BridgeGroups.{group-lines, list-lines}
 use Rattle.indexing.proofs.BridgeEntries.{bridge-entries}
-use Rattle.indexing.proofs.BridgeTables.{occupied, programBy}
+use Rattle.indexing.proofs.BridgeTables.{occupied}
 use Rattle.indexing.proofs.BridgeLines.{Tagged, zeros-replicate, tagged-retag, any-open-all, dead-all, seed-is, bridge-lines}
 
 -- ---- an element in the middle gives way to a block, and more elements follow

@@ -21,7 +21,7 @@ use Rattle.indexing.specs.Columns.{tablesAt, tagAt, choiceAt, choices, l
 use Rattle.indexing.specs.Expanding.{opensOf}
 use Rattle.indexing.specs.Lists.{add, keep}
 use Rattle.indexing.specs.Lines.{dead, Choice, Line, offs, deadRec, tableRecs, tablesRecs, choiceRec, modeOf, records}
-use Rattle.indexing.specs.Build.{Program, consLine, openAt, laterTables, tagRest, tagStatic, retag, newLine, keysAt, literals, lists}
+use Rattle.indexing.specs.Build.{Program, programBy, consLine, openAt, laterTables, tagRest, tagStatic, retag, newLine, keysAt, literals, lists}
 use Rattle.indexing.specs.Build.{structures, bucketOf, linesFor, newLines}
 use Rattle.indexing.specs.Expand.{initial, seed}
 use Rattle.indexing.proofs.Built.{offs-initial}
@@ -33,7 +33,7 @@ use Rattle.indexing.proofs.BridgeColumns.{InRange, head-group, First, g
 use Rattle.indexing.proofs.BridgeGroups.{length-offs, all-keyed, lines-append, opens-leads, clauses, key, heads, leaders, keysTo}
 use Rattle.indexing.proofs.BridgeGroups.{leaders-count, lone-is, lines-to, group-keys, lists-is, group-lines, list-lines, empty-lone}
 use Rattle.indexing.proofs.BridgeTables.{list-first, count-first, chosen, chosen-all, chosen-keep, length-chosen, occupied}
-use Rattle.indexing.proofs.BridgeTables.{offs-chosen, programBy, dead-clauses, any-open, tables-at}
+use Rattle.indexing.proofs.BridgeTables.{offs-chosen, dead-clauses, any-open, tables-at}
 
 -- ---- the chosen elements, each with its number among them
 
@@ -127,10 +127,6 @@ tagged-all P n cs e = go (P .dynamic)
 
 -- ---- the line of the bucket i of a line of the choices cs
 
-mode-one : (b : Bool) → one b ≡ modeOf b
-mode-one true = refl
-mode-one false = refl
-
 module _ (S : Settings) (K : ℕ → ℕ → Key) (cs : List Choice) (leaders : List ℕ) (whole : length leaders ≡ length cs) (i : ℕ) where
   abbrev places : ℕ → Bool
   places = member leaders i
@@ -170,7 +166,7 @@ module _ (S : Settings) (K : ℕ → ℕ → Key) (cs : List Choice) (leaders : 
       ≡ records (modeOf (S .dynamic)) number (newLine (programBy S K) a mine ∷ [])
   unfolding lineOf
   line-is tags heads a number own h small =
-      rw (mode-one (S .dynamic), tables-are a h small, choices-are tags own, append-nil (map choiceRec (retag (programBy S K) mine)))
+      rw (tables-are a h small, choices-are tags own, append-nil (map choiceRec (retag (programBy S K) mine)))
 
 -- ---- all clauses as one bucket
 
@@ -231,7 +227,7 @@ module _ (S : Settings) (K : ℕ → ℕ → Key) (small : S .arity ≤ 32) (zer
       let every : chosen (member zeros 0) cs ≡ cs = all-members zeros os Z cs n in
       let tables = tables-are S K cs zeros (Z .whole ∙ sym n) 0 c h small in
       let offsets = choices-are S K cs zeros (Z .whole ∙ sym n) 0 tags own in
-      rw (mode-one (S .dynamic), rw (every, e) at tables, rw (every, e) at offsets, append-nil (map choiceRec (retag (programBy S K) cs)))
+      rw (rw (every, e) at tables, rw (every, e) at offsets, append-nil (map choiceRec (retag (programBy S K) cs)))
 
 -- ---- the new lines of a switch on argument a
 

@@ -18,11 +18,11 @@ use Rattle.indexing_iter.specs.declared.Settings.{Settings}
 use Rattle.indexing_iter.specs.Clauses.{keyOf}
 use Rattle.indexing_iter.specs.Keys.{isOpen}
 use Rattle.indexing.specs.Upto.{one, countTo, anyTo, listTo}
-use Rattle.indexing.specs.Columns.{openRow, opensTo, member, maskedAt, openMember, deadClauses, tableAt, tablesAt}
+use Rattle.indexing.specs.Columns.{openRow, opensTo, member, openMember, deadClauses, tableAt, tablesAt}
 use Rattle.indexing.specs.Expanding.{opensOf}
 use Rattle.indexing.specs.Lists.{add, keep}
 use Rattle.indexing.specs.Lines.{Table, dead, Choice, offs, deadRec, tableRecs, tablesRecs}
-use Rattle.indexing.specs.Build.{Program, programOf, consOpt, openAt, newTable, laterTable, laterTables}
+use Rattle.indexing.specs.Build.{Program, programBy, maskedAt, consOpt, openAt, newTable, laterTable, laterTables}
 use Rattle.indexing.proofs.BridgeLists.{list-cong, any-cong, length-each, getD-each}
 use Rattle.indexing.proofs.Expand.{add-offs}
 use Rattle.indexing.proofs.Tests.{T-true}
@@ -168,22 +168,6 @@ offs-chosen t [] = refl
 offs-chosen t (c ∷ cs) =
     add-offs (t 0) c (chosen (λ j. t (suc j)) cs) ∙ ap (add (t 0) (c .offset)) (offs-chosen (λ j. t (suc j)) cs)
 
--- ---- settings and keys as a program
-
-abbrev pub programBy : Settings → (ℕ → ℕ → Key) → Program
-programBy S K = record {
-  arity = S .arity;
-  masked = λ a. eqb (S .mask / 2 ^ (a - 1) % 2) 1;
-  dynamic = S .dynamic;
-  extensible = S .extensible;
-  nonCounted = S .«non_counted»;
-  keyOf = K;
-}
-
--- the program of a code (specs/Build) is such a one
-pub program-by : (cls : ℕ → ℕ) (S : Settings) (rs : List Rec) (starts : List ℕ) → programOf cls S rs starts ≡ programBy S (keyOf cls rs starts)
-program-by cls S rs starts = refl
-
 -- ---- the tables of the bucket i of a line of the clauses os
 
 module _ (S : Settings) (K : ℕ → ℕ → Key) (os leaders : List ℕ) (small : S .arity ≤ 32) (whole : length leaders ≡ length os) (i : ℕ) where
@@ -222,7 +206,7 @@ module _ (S : Settings) (K : ℕ → ℕ → Key) (os leaders : List ℕ) (small
   -- one argument's table
   table-at : (b : ℕ) → 1 ≤ b → b ≤ S .arity
       → tableAt leaders (opensOf S K os) os (S .mask) (S .extensible) i b ≡ tablesRecs (consOpt (laterTable (programBy S K) b clauses) [])
-  unfolding tableAt maskedAt
+  unfolding tableAt
   table-at b p q =
       ap₂ (tableBy b (maskedAt (S .mask) b)) (ap (anyTo (openMember leaders (opensOf S K os) os i b)) whole ∙ any-open b p q) (dead-clauses b p q)
       ∙ masks (maskedAt (S .mask) b) (openAt (programBy S K) b clauses)

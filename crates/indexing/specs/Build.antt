@@ -30,16 +30,24 @@ pub record Program : Type 0 where
   -- section 2: the key of the clause at an offset, at an argument from 1 on
   pub keyOf : ℕ → ℕ → Key
 
--- section 3: a predicate by its settings, code records and starts; bit a - 1 of the mask is argument a's
-abbrev pub programOf : (ℕ → ℕ) → Settings → List Rec → List ℕ → Program
-programOf cls s rs starts = record {
+-- section 3: bit a - 1 of a mask, which is argument a's, is set
+abbrev pub maskedAt : ℕ → ℕ → Bool
+maskedAt mask a = eqb (mask / 2 ^ (a - 1) % 2) 1
+
+-- section 3: a predicate by its settings and the keys of its clauses
+abbrev pub programBy : Settings → (ℕ → ℕ → Key) → Program
+programBy s keys = record {
   arity = s .arity;
-  masked = λ a. eqb (s .mask / 2 ^ (a - 1) % 2) 1;
+  masked = maskedAt (s .mask);
   dynamic = s .dynamic;
   extensible = s .extensible;
   nonCounted = s .«non_counted»;
-  keyOf = Clauses.keyOf cls rs starts;
+  keyOf = keys;
 }
+
+-- section 3: a predicate by its settings, code records and starts
+abbrev pub programOf : (ℕ → ℕ) → Settings → List Rec → List ℕ → Program
+programOf cls s rs starts = programBy s (Clauses.keyOf cls rs starts)
 
 -- section 3: a line's tables with one more in front, if there is one
 abbrev pub consOpt : Option Table → List Table → List Table

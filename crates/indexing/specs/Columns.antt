@@ -4,9 +4,9 @@
 -- key's sort and arity, and its bits), offs and tags (the line's choices), opens (32 numbers a clause: 1 at b - 1 where the clause
 -- has no key at argument b, else 0).
 -- Assumes nothing.
-use Prim.Native.Nat.{ℕ, zero, suc, _+_, _-_, _*_, _/_, _%_, _^_}
+use Prim.Native.Nat.{ℕ, zero, suc, _+_, _-_, _*_, _/_, _%_}
 use mathlib.Core.Bool.{Bool, true, false, cond, not, _&&_, _||_}
-use mathlib.Core.List.{List, [], _∷_, _++_}
+use mathlib.Core.List.{List, [], _∷_, _++_, map}
 use lib.Dec.{eqb, leb, ltb}
 use lib.ListN.{length, getD}
 use Rattle.records.specs.declared.Rec.{Rec}
@@ -15,6 +15,12 @@ use Rattle.indexing_iter.specs.declared.OptArgIndexKey.{OptArgIndexKey as Key}
 use Rattle.indexing_iter.specs.declared.Settings.{Settings}
 use Rattle.indexing_iter.specs.Keys.{isOpen, headOf, bitsOf}
 use Rattle.indexing.specs.Upto.{one, countTo, anyTo, listTo}
+use Rattle.indexing.specs.Lines.{modeOf}
+use Rattle.indexing.specs.Build.{maskedAt}
+
+-- the words of records: the offsets, where they are offset records
+unfoldable pub wordsOf : List Rec → List ℕ
+wordsOf rs = map (λ r. r .word) rs
 
 -- the group of a key by its head: 1 literals, 2 list, 3 structures
 abbrev pub groupOfHead : ℕ → ℕ
@@ -120,10 +126,6 @@ module _ (leaders : List ℕ) where
           let literals : ℕ = structures + linesTo dynamic 3 (length leaders) in
           rec 2 0 arg 0 0 ∷ (entries dynamic 1 literals ++ (listEntries dynamic d ++ entries dynamic 3 structures))
 
--- the mask's bit of an argument
-unfoldable pub maskedAt : ℕ → ℕ → Bool
-maskedAt mask b = eqb (mask / 2 ^ (b - 1) % 2) 1
-
 module _ (leaders opens offs : List ℕ) where
   -- clause j, of the bucket that clause i leads, has no key at argument b
   unfoldable pub openMember : ℕ → ℕ → ℕ → Bool
@@ -166,7 +168,7 @@ module _ (leaders heads opens offs tags : List ℕ) (S : Settings) (arg : ℕ) w
   -- the line of a number for the bucket that clause i leads; where i is past the clauses, the line of none
   unfoldable pub lineOf : ℕ → ℕ → List Rec
   lineOf number i =
-      rec 1 (one (S .dynamic)) 0 number 0
+      rec 1 (modeOf (S .dynamic)) 0 number 0
       ∷ (tablesAt leaders opens offs (S .mask) (S .extensible) i (arg + 1) (S .arity - arg) ++ choices leaders offs tags (S .dynamic) (S .«non_counted») i)
 
   -- where clause i opens a line of group g, that line
@@ -191,7 +193,7 @@ module _ (leaders heads opens offs tags : List ℕ) (S : Settings) (arg : ℕ) w
 module _ (zeros opens offs tags : List ℕ) (S : Settings) (arg : ℕ) where
   unfoldable pub seedRecs : List Rec
   seedRecs =
-      rec 1 (one (S .dynamic)) 0 0 0
+      rec 1 (modeOf (S .dynamic)) 0 0 0
       ∷ (rec 3 0 arg 0 0
       ∷ (tablesAt zeros opens offs (S .mask) (S .extensible) 0 (arg + 1) (S .arity - arg) ++ choices zeros offs tags (S .dynamic) (S .«non_counted») 0))
 

@@ -30,7 +30,7 @@ use Rattle.indexing_builder.specs.declared.BuildAnswer.{BuildAnswer}
 use Rattle.indexing_builder.specs.declared.BuildAnswer.the-variants.{Done, Refused as Turned}
 use Rattle.indexing.specs.Lists.{keep}
 use Rattle.indexing.specs.Lines.{Index, records, modeOf, size}
-use Rattle.indexing.specs.Build.{openAt}
+use Rattle.indexing.specs.Build.{openAt, programBy}
 use Rattle.indexing.specs.Expand.{initial, build}
 use Rattle.indexing.specs.Columns.{switchRecs, newLinesRecs, seedRecs}
 use Rattle.indexing.specs.Expanding.{headsAt, bitsAt, leadersAt, opensOf, zerosOf, ColumnsOf}
@@ -40,7 +40,6 @@ use Rattle.indexing_builder.specs.Building.{answerBy, Builds}
 use Rattle.indexing.proofs.Size.{length-records}
 use Rattle.index_writer.proofs.ColumnLaws.{offsets-known}
 use Rattle.indexing.proofs.BridgeColumns.{InRange}
-use Rattle.indexing.proofs.BridgeTables.{programBy}
 use Rattle.indexing.proofs.BridgeLines.{Tagged, tagged-initial}
 use Rattle.indexing.proofs.BridgeExpand.{built-size, built-spliced}
 use Rattle.indexing_builder.proofs.ExpansionLaws.{switch-some, known-ranged}

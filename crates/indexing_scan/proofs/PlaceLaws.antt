@@ -18,6 +18,7 @@ use Rattle.indexing.proofs.Lists.{All, all-append}
 use Rattle.indexing.proofs.Reading.{FitEntry}
 use Rattle.indexing.proofs.Tests.{bool-absurd}
 use Rattle.indexing.specs.Build.{Program}
+use Rattle.indexing.specs.Columns.{wordsOf}
 use Rattle.indexing.specs.Lines.{Ptr, Entry, Table, switch, onDemand, dead, Choice, Line, Index, noLine, lineAt, offs}
 use Rattle.indexing.specs.Lines.{entryRec, deadRec, tableRecs, tablesRecs, choiceRec, lineRec, records}
 use Rattle.indexing_iter.specs.declared.OptArgIndexKey.{OptArgIndexKey as Key}
@@ -25,7 +26,7 @@ use Rattle.indexing_scan.proofs.ChooseLaws.{choose-entries}
 use Rattle.indexing_scan.proofs.Turns.{line-zero}
 use Rattle.indexing_scan.specs.Walk.{choose}
 use Rattle.indexing_scan.specs.declared.stored.Run.the-variants.{Items, Tables, Offsets}
-use Rattle.indexing_scan.specs.Places.{isItem, isTable, leaves, upTo, throughLine, behindTable, behindLine, firstOffset, offsetsAt, wordsOf, headRec, At}
+use Rattle.indexing_scan.specs.Places.{isItem, isTable, leaves, upTo, throughLine, behindTable, behindLine, firstOffset, offsetsAt, headRec, At}
 use Rattle.indexing_scan.specs.Places.{chooseRec, choiceOf}
 
 -- ---- runs

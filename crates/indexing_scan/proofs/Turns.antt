@@ -12,7 +12,8 @@ use lib.ListN.{length, getD, take, drop, set, List·getD-eq-default}
 use lib.Seq.{slice, slice-empty, slice-cons, length-slice, length-take-le, take-suc, drop-cons, drop-append-le, append-snoc, set-at, getD-take}
 use Rattle.records.specs.declared.Rec.{Rec}
 use Rattle.records.specs.Records.{none}
-use Rattle.indexing_scan.specs.Places.{upTo, countOf, throughLine, wordsOf}
+use Rattle.indexing.specs.Columns.{wordsOf}
+use Rattle.indexing_scan.specs.Places.{upTo, countOf, throughLine}
 
 -- the record at a place of the first n, and behind them
 pub in-first : (l : List Rec) (n p : ℕ) → p < n → getD l p none ≡ getD (take n l) p none

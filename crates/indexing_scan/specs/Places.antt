@@ -77,11 +77,6 @@ firstOffset rs p = p + upTo (leaves Tables) (drop p rs)
 unfoldable pub offsetsAt : List Rec → ℕ → ℕ
 offsetsAt rs q = upTo (leaves Offsets) (drop q rs)
 
--- the words of records
-unfoldable pub wordsOf : List Rec → List ℕ
-wordsOf [] = []
-wordsOf (r ∷ rs) = r .word ∷ wordsOf rs
-
 -- section 3: a table's own record
 abbrev pub headRec : Table → Rec
 headRec (switch a es) = rec 2 0 a 0 0

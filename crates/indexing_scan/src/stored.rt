@@ -9,7 +9,8 @@ ghost use Prim.Native.Nat.{_+_, _≤_, _<_};
 ghost use lib.ListN.{length, getD, take, drop};
 ghost use lib.Seq.{slice};
 ghost use Rattle.records.specs.Records.{recordsOf, none};
-ghost use Rattle.indexing_scan.specs.Places.{isItem, isTable, inRun, leaves, upTo, countOf, behindTable, behindLine, firstOffset, offsetsAt, wordsOf, inGroup, hasKey, chooseRec};
+ghost use Rattle.indexing.specs.Columns.{wordsOf};
+ghost use Rattle.indexing_scan.specs.Places.{isItem, isTable, inRun, leaves, upTo, countOf, behindTable, behindLine, firstOffset, offsetsAt, inGroup, hasKey, chooseRec};
 
 // Runs of records: the entries or dead clauses of one table, tables with theirs, the offsets of a line.
 pub enum Run {

@@ -5,8 +5,7 @@ use indexing_iter::Settings;
 ghost use mathlib.Core.Path.{_≡_};
 ghost use mathlib.Core.Bool.{Bool, true, false};
 ghost use mathlib.Core.List.{List, [], _++_};
-ghost use Prim.Native.Nat.{_+_, _-_, _/_, _%_, _^_, _≤_, _<_};
-ghost use lib.Dec.{eqb};
+ghost use Prim.Native.Nat.{_+_, _-_, _≤_, _<_};
 ghost use lib.ListN.{length, take, drop};
 ghost use Rattle.records.specs.Records.{recordsOf};
 ghost use Rattle.indexing_iter.specs.Classes.{classOf};
@@ -129,14 +128,6 @@ fn no_entry(dynamic: bool, q: OptArgIndexKey) -> Narrowed
     Narrowed::Failed
 }
 
-// Whether argument a is masked.
-fn is_masked(mask: u32, a: u32) -> bool
-    requires { ⌜ (1 ≤ a) × (a ≤ 32) ⌝ }
-    ensures { λ r. ⌜ r ≡ eqb (mask / 2 ^ (a - 1) % 2) 1 ⌝ }
-{
-    (mask >> (a - 1)) % 2 == 1
-}
-
 // The switch on argument a of the first m clauses, followed with the bound key q.
 fn follow_new(code: &[u8], starts: &[u32], settings: Settings, clauses: &mut [u32], m: usize, a: u32, q: OptArgIndexKey) -> Narrowed
     requires { ⌜ checkCode classOf (settings .arity) (now code) (now starts) ≡ Passed ⌝ }
@@ -191,7 +182,7 @@ pub fn narrow(code: &[u8], starts: &[u32], settings: Settings, clauses: &mut [u3
         moveOf r (now (clauses .exit)) ≡ move P [] (unstored (take m (now (clauses .entry)))) a q) ⌝ }
     ensures { λ r. ⌜ Held (now (starts .entry)) m (now (clauses .entry)) (now (clauses .exit)) r ⌝ }
 {
-    if is_masked(settings.mask, a) {
+    if indexing::masked(settings.mask, a) {
         return Narrowed::NoTable;
     }
     if any_open(code, starts, settings.arity, &clauses[..m], a) {

@@ -23,24 +23,20 @@ use Rattle.indexing.proofs.BridgeLines.{tagsOf, tagged-own}
 use Rattle.indexing.specs.Builder.{capacityOf}
 use Rattle.indexing.specs.Expanding.{blockRecs, moreRecs, moreLines}
 use Rattle.indexing.specs.Lines.{Choice, Index, lineAt, offs, size, modeOf, choiceRec, records}
-use Rattle.index_writer.specs.Choices.{wordsOf, subsOf, AllKnown}
+use Rattle.indexing.specs.Columns.{wordsOf}
+use Rattle.index_writer.specs.Choices.{subsOf, AllKnown}
 use Rattle.indexing_builder.specs.declared.expansion.Expanded.{Expanded}
 use Rattle.indexing_builder.specs.declared.expansion.Expanded.the-variants.{Stored, NoRoom}
 use Rattle.indexing_builder.specs.Expansion.{answerFor, Expands}
 use Rattle.indexing_builder.proofs.ExpansionLaws.{expansion-answer, expansion-stored}
 use Rattle.indexing_scan.proofs.ExpandedLaws.{at-table}
-use Rattle.indexing_scan.proofs.PlaceLaws.{at-choices}
+use Rattle.indexing_scan.proofs.PlaceLaws.{at-choices, words-choices}
 use Rattle.indexing_scan.specs.Places.{At, firstOffset, offsetsAt}
 use Rattle.indexing_walk.specs.declared.Walking.{Walking}
 use Rattle.indexing_walk.specs.Walking.{indexIn, offAt, grownAt, Stands, Went, WentBound}
 use Rattle.indexing_walk.proofs.StandLaws.{size-is, orderly}
 use Rattle.indexing_walk.proofs.LineLaws.{at-offs, offs-count, offs-within, known-line, every-at, few-line}
 use Rattle.indexing_walk.proofs.StoreLaws.{after, dem, range-arg, placed, went-stored, went-over}
-
-words-choices : (cs : List Choice) → wordsOf (map choiceRec cs) ≡ offs cs
-unfolding wordsOf
-words-choices [] = refl
-words-choices (c ∷ cs) = ap (λ (os : List ℕ). c .offset ∷ os) (words-choices cs)
 
 subs-choices : (cs : List Choice) → subsOf (map choiceRec cs) ≡ tagsOf cs
 unfolding subsOf

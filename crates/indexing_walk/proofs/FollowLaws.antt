@@ -13,7 +13,8 @@ use lib.Seq.{slice}
 use Rattle.records.specs.declared.Rec.{Rec}
 use Rattle.records.specs.Pointer.{isInternal, distanceOf}
 use Rattle.indexing_iter.specs.declared.OptArgIndexKey.{OptArgIndexKey as Key}
-use Rattle.indexing_scan.specs.Places.{behindTable, behindLine, chooseRec, wordsOf}
+use Rattle.indexing.specs.Columns.{wordsOf}
+use Rattle.indexing_scan.specs.Places.{behindTable, behindLine, chooseRec}
 use Rattle.indexing_scan.specs.declared.stored.Chosen.{Chosen}
 use Rattle.indexing_walk.specs.declared.Looked.{Looked}
 use Rattle.indexing_walk.specs.declared.Looked.the-variants.{External, Enter}

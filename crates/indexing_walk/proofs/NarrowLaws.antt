@@ -25,7 +25,8 @@ use Rattle.indexing_scan.proofs.PlaceLaws.{at-demand, LeftDemand}
 use Rattle.indexing_scan.proofs.Steps.{Left}
 use Rattle.indexing_scan.specs.Agree.{Call}
 use Rattle.indexing_scan.specs.Calls.{callOf}
-use Rattle.indexing_scan.specs.Places.{At, isTable, behindTable, offsetsAt, wordsOf}
+use Rattle.indexing.specs.Columns.{wordsOf}
+use Rattle.indexing_scan.specs.Places.{At, isTable, behindTable, offsetsAt}
 use Rattle.indexing_scan.specs.Unstored.{moveOf, Held, finishedBy}
 use Rattle.indexing_scan.specs.Walk.{Chosen, Step, Place, line, unstored, Move, skip, stop, pass, out, goto, Answer, look, act, enter, followNew, choose, demand, move, settle}
 use Rattle.indexing_scan.specs.Walk.{answerFrom, State, Result}

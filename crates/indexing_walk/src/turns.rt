@@ -22,7 +22,8 @@ ghost use Rattle.indexing_iter.specs.Checks.{checkCode};
 ghost use Rattle.indexing_iter.specs.declared.Checked.the-variants.{Passed};
 ghost use Rattle.indexing_iter.specs.Keys.{isOpen};
 ghost use Rattle.indexing_scan.specs.Calls.{checkCall, callOf};
-ghost use Rattle.indexing_scan.specs.Places.{isTable, behindTable, chooseRec, firstOffset, offsetsAt, wordsOf};
+ghost use Rattle.indexing.specs.Columns.{wordsOf};
+ghost use Rattle.indexing_scan.specs.Places.{isTable, behindTable, chooseRec, firstOffset, offsetsAt};
 ghost use Rattle.indexing_walk.specs.Walking.{followedBy, lookedBy, movedTo, endedBy, turnedBy, ListedBy, Stands, Turns};
 
 // Follows a pointer from place p in line l.

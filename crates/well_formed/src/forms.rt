@@ -4,7 +4,6 @@ ghost use mathlib.Core.Bool.{cond, not, _&&_};
 ghost use Prim.Native.Nat.{_-_, _<_};
 ghost use lib.Dec.{ltb};
 ghost use lib.ListN.{length, getD};
-ghost use Rattle.indexing.specs.Lines.{modeOf};
 ghost use Rattle.indexing.specs.Reading.{pointerFrom};
 ghost use Rattle.well_formed.specs.Pass.{lower, groupBySort, formOk, rises, tagIn};
 ghost use Rattle.well_formed.specs.Pass.{marked, reachIn};
@@ -85,16 +84,6 @@ pub fn group_by_sort(sort: u8) -> u8
         return 2;
     }
     1
-}
-
-// A line's sub.
-pub fn mode_of(dynamic: bool) -> u8
-    ensures { λ m. ⌜ m ≡ modeOf dynamic ⌝ }
-{
-    if dynamic {
-        return 1;
-    }
-    0
 }
 
 // The bound of an external pointer: above every argument, if it is a known offset and not dynamic.

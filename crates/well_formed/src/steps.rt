@@ -23,7 +23,7 @@ fn line_ok(r: Rec, s: Waits, total: usize, dynamic: bool) -> bool
     let entries = s.entries;
     let clause = s.clause;
     let offset = s.offset;
-    if sub != forms::mode_of(dynamic) {
+    if sub != indexing::mode_of(dynamic) {
         return false;
     }
     if half != 0 {

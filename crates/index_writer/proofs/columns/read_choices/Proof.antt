@@ -9,7 +9,8 @@ use lib.ListN.{length, getD}
 use lib.Seq.{slice}
 use Rattle.records.specs.Records.{recordsOf}
 use Rattle.records.proofs.Filled.{Filled, fill-start, fill-more}
-use Rattle.index_writer.specs.Choices.{wordsOf, subsOf}
+use Rattle.indexing.specs.Columns.{wordsOf}
+use Rattle.index_writer.specs.Choices.{subsOf}
 use Rattle.index_writer.proofs.ColumnLaws.{fill-whole, length-field, getD-field}
 use borrow.Author.Needs.{needs}
 use Rattle.index_writer.proofs.columns.read_choices.Statement.{statement}

@@ -12,8 +12,8 @@ use Rattle.index_writer.proofs.LineLaws.{restOf, line-parts}
 use Rattle.index_writer.proofs.lines.put_line.Statement.{statement}
 use Rattle.index_writer.proofs.lines.put_line.Tie as tie
 
-mode-requires : tie.Need-mode-requires
-mode-requires c κs = search needs
+mode-of-requires : tie.Need-mode-of-requires
+mode-of-requires c κs = search needs
 
 put-requires : tie.Need-put-requires
 put-requires c κs =
@@ -47,13 +47,13 @@ returns c =
     let v = c .before .before .put-rest in
     let rest = restOf (a .leaders .now) (a .opens .now) (a .offs .now) (a .tags .now) (a .settings) (a .arg) (a .i) in
     let e = line-parts (a .leaders .now) (a .opens .now) (a .offs .now) (a .tags .now) (a .settings) (a .arg) (a .i) [] (a .number) in
-    let m = ap (λ (x : ℕ). ([] ++ (rec 1 x 0 (a .number) 0 ∷ [])) ++ rest) (c .before .before .before .before .before .before .before .before .mode .ensures) ∙ e in
+    let m = ap (λ (x : ℕ). ([] ++ (rec 1 x 0 (a .number) 0 ∷ [])) ++ rest) (c .before .before .before .before .before .before .before .before .mode-of .ensures) ∙ e in
     let g0 = grow-start (a .index .now) (a .p) (omega (arith, s)) in
-    let g1 = grow-one (w .last .0) (rec 1 (c .before .before .before .before .before .before .before .before .mode .result) 0 (a .number) 0) g0 (omega (arith, s, ap length e)) (w .kept .0) (w .ensures) in
+    let g1 = grow-one (w .last .0) (rec 1 (c .before .before .before .before .before .before .before .before .mode-of .result) 0 (a .number) 0) g0 (omega (arith, s, ap length e)) (w .kept .0) (w .ensures) in
     let g2 = grow-run (v .last .0) (v .result) rest g1 (v .ensures .0) (omega (arith, s, ap length e, v .ensures .0)) (v .kept .0) (v .ensures .1) in
     (grow-as m g2 .next, grow-end (grow-as m g2))
 
 pub put-line-spec : {M : Type 1} → statement M
 put-line-spec =
     tie.close
-    (tie.spec mode-requires put-requires add-put-rest put-rest-requires same-length returns)
+    (tie.spec mode-of-requires put-requires add-put-rest put-rest-requires same-length returns)

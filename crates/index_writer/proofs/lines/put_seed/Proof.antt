@@ -11,8 +11,8 @@ use Rattle.index_writer.proofs.LineLaws.{restOf, seed-parts}
 use Rattle.index_writer.proofs.lines.put_seed.Statement.{statement}
 use Rattle.index_writer.proofs.lines.put_seed.Tie as tie
 
-mode-requires : tie.Need-mode-requires
-mode-requires c κs = search needs
+mode-of-requires : tie.Need-mode-of-requires
+mode-of-requires c κs = search needs
 
 put-requires : tie.Need-put-requires
 put-requires c κs =
@@ -42,7 +42,7 @@ returns : tie.Need-returns
 returns c =
     let s = c .before .before .before .before .before .before .before .before .before .before .before .before .before .before .before .before .before .before in
     let a = s .args in
-    let mode = c .before .before .before .before .before .before .before .before .before .before .before .before .mode in
+    let mode = c .before .before .before .before .before .before .before .before .before .before .before .before .mode-of in
     let w = c .before .before .before .before .before .before .before .before .before .before .put in
     let u = c .before .before .before .before .before .before .put2 in
     let v = c .before .before .put-rest in
@@ -59,7 +59,7 @@ pub put-seed-spec : {M : Type 1} → statement M
 put-seed-spec =
     tie.close
     (tie.spec
-    mode-requires
+    mode-of-requires
     put-requires
     cast-t15
     put-requires-2

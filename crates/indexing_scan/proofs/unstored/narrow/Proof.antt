@@ -18,10 +18,10 @@ use Rattle.indexing_scan.proofs.unstored.narrow.Lts as lts
 use Rattle.indexing_iter.proofs.is_open.Reads as is-open-reads
 use Rattle.indexing_scan.proofs.unstored.any_open.Reads as any-open-reads
 use Rattle.indexing_scan.proofs.unstored.follow_new.Reads as follow-new-reads
-use Rattle.indexing_scan.proofs.unstored.is_masked.Reads as is-masked-reads
+use Rattle.indexing.proofs.masked.Reads as masked-reads
 
-is-masked-requires : tie.Need-is-masked-requires
-is-masked-requires c κs =
+masked-requires : tie.Need-masked-requires
+masked-requires c κs =
     let a = c .before .before .before .args in
     (search needs, omega (arith, code-arity classOf (a .settings .arity) (a .code .now) (a .starts .now) (search needs)))
 
@@ -30,7 +30,7 @@ returns c =
     let a = c .before .before .before .before .before .args in
     let P = programOf classOf (a .settings) (recordsOf (a .code .now)) (a .starts .now) in
     let os = take (a .m) (a .clauses .now) in
-    let i = c .before .is-masked in
+    let i = c .before .masked in
     (move-masked P (a .a) (a .q) os (i .result) (i .ensures) (c .if1 .taken), held-same (a .starts .now) (a .m) (a .clauses .now) NoTable refl refl (search needs))
 
 slice-reshare-prefix-any-open : tie.Need-slice-reshare-prefix-any-open
@@ -52,7 +52,7 @@ returns-2 c =
     let a = c .before .before .before .before .before .before .before .before .before .before .args in
     let P = programOf classOf (a .settings) (recordsOf (a .code .now)) (a .starts .now) in
     let os = take (a .m) (a .clauses .now) in
-    let i = c .before .before .before .before .before .before .is-masked in
+    let i = c .before .before .before .before .before .before .masked in
     let o = c .before .before .before .any-open in
     (move-none P (a .a) (a .q) os (i .result) (i .ensures) (o .result) (o .ensures) (c .before .before .before .before .before .if1 .left) (c .before .before .if2 .taken) (c .if3 .taken),
       held-same (a .starts .now) (a .m) (a .clauses .now) NoTable refl refl (search needs))
@@ -68,7 +68,7 @@ returns-3 c =
     let a = c .before .before .before .before .before .before .before .before .before .before .before .before .args in
     let P = programOf classOf (a .settings) (recordsOf (a .code .now)) (a .starts .now) in
     let os = take (a .m) (a .clauses .now) in
-    let i = c .before .before .before .before .before .before .before .before .is-masked in
+    let i = c .before .before .before .before .before .before .before .before .masked in
     let o = c .before .before .before .before .before .any-open in
     let u = c .before .is-open in
     let m = move-dead P (a .a) (a .q) os (i .result) (i .ensures) (o .result) (o .ensures) (c .before .before .before .before .before .before .before .if1 .left) (u .result) (u .ensures)
@@ -83,7 +83,7 @@ returns-4 c =
     let a = c .before .before .before .before .before .before .before .before .before .before .before .before .args in
     let P = programOf classOf (a .settings) (recordsOf (a .code .now)) (a .starts .now) in
     let os = take (a .m) (a .clauses .now) in
-    let i = c .before .before .before .before .before .before .before .before .is-masked in
+    let i = c .before .before .before .before .before .before .before .before .masked in
     let o = c .before .before .before .before .before .any-open in
     let u = c .before .is-open in
     let m = move-dead P (a .a) (a .q) os (i .result) (i .ensures) (o .result) (o .ensures) (c .before .before .before .before .before .before .before .if1 .left) (u .result) (u .ensures)
@@ -101,7 +101,7 @@ returns-5 c =
     let a = c .before .before .before .before .before .before .before .before .before .before .args in
     let P = programOf classOf (a .settings) (recordsOf (a .code .now)) (a .starts .now) in
     let os = take (a .m) (a .clauses .now) in
-    let i = c .before .before .before .before .before .before .is-masked in
+    let i = c .before .before .before .before .before .before .masked in
     let o = c .before .before .before .any-open in
     let u = c .before .is-open2 in
     (move-unbound P (a .a) (a .q) os (i .result) (i .ensures) (o .result) (o .ensures) (c .before .before .before .before .before .if1 .left) (u .result) (u .ensures) (c .before .before .if2 .left) (c .if5 .taken),
@@ -118,7 +118,7 @@ returns-6 c =
     let a = c .before .before .before .before .before .before .before .before .before .before .before .before .before .before .args in
     let P = programOf classOf (a .settings) (recordsOf (a .code .now)) (a .starts .now) in
     let os = take (a .m) (a .clauses .now) in
-    let i = c .before .before .before .before .before .before .before .before .before .before .is-masked in
+    let i = c .before .before .before .before .before .before .before .before .before .before .masked in
     let o = c .before .before .before .before .before .before .before .any-open in
     let u = c .before .before .before .before .before .is-open2 in
     let f = c .before .before .follow-new in
@@ -131,7 +131,7 @@ pub narrow-spec : {M : Type 1} → statement M
 narrow-spec =
     tie.close
     (tie.spec
-    is-masked-requires
+    masked-requires
     returns
     slice-reshare-prefix-any-open
     slice-aggregate-any-open

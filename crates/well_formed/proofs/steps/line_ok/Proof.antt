@@ -8,7 +8,7 @@ use Rattle.well_formed.proofs.steps.line_ok.Statement.{statement}
 use Rattle.well_formed.proofs.steps.line_ok.Tie as tie
 use Rattle.well_formed.proofs.steps.line_ok.Reads as reads
 use Rattle.well_formed.proofs.steps.line_ok.Lts as lts
-use Rattle.well_formed.proofs.forms.mode_of.Reads as mode-of-reads
+use Rattle.indexing.proofs.mode_of.Reads as mode-of-reads
 
 cast-number : tie.Need-cast-number
 cast-number c = search needs
