@@ -44,7 +44,8 @@ enum podrulka_flag {
     PODRULKA_SKIP = 8         /* the variable offset is 2, not 1 */
 };
 
-/* The numbers that a call returns. The first that applies is returned; 5 to 7 go clause by clause, record by record.
+/* The numbers that a call returns. The first that applies is returned; 5 to 7 go clause by clause, record by record, a clause's 5
+ * first and within a record 6 before 7.
  * The builder refuses with 1 to 9, the walk with 1, 3 to 7 and 10 to 12, the witness with 1, 3 to 7 and 10. */
 enum podrulka_number {
     PODRULKA_OK = 0,
@@ -53,7 +54,8 @@ enum podrulka_number {
     PODRULKA_CODE = 3,        /* the code is not whole records, or more than 32,768 of them */
     PODRULKA_STARTS = 4,      /* no starts, more than 1,024, not strictly rising, or one at or past the code's end */
     PODRULKA_BODY = 5,        /* a clause without a body record */
-    PODRULKA_KEY = 6,         /* a keyed record with sub bits 2 to 7 set, a literal's sort not 1 to 3 or a structure's arity not 1 to 255 */
+    PODRULKA_KEY = 6,         /* a keyed record with sub bits 2 to 7 set; if neither bit 0 nor bit 1 is set, a literal's sort not 1 to 3 or a
+                                 structure's arity not 1 to 255 */
     PODRULKA_REGISTER = 7,    /* a register that is 0, above the arity, or not above that of an earlier key of the clause */
     PODRULKA_NO_KEY = 8,      /* a clause with no key at the chosen argument */
     PODRULKA_ROOM = 9,        /* the built index has more records than the buffer has room for */

@@ -75,7 +75,7 @@ pub enum Case {
     External,
     /// The clauses of one line.
     Sequence,
-    /// All clauses: no argument decided.
+    /// All clauses of line 0, which on an index built here are all clauses: no argument decided.
     Variadic,
 }
 
@@ -101,6 +101,9 @@ impl Walked {
     ///
     /// # Errors
     /// The refusal, if they are one's.
+    ///
+    /// # Panics
+    /// If no walk gives these numbers: number 0 with a case that is not 1 to 4.
     pub fn from_numbers(result: [u64; 7]) -> Result<Walked, Refusal> {
         let [0, case, line, count, tables, mark, records] = result else {
             return Err(Refusal(result[0] as u32));

@@ -1,8 +1,9 @@
 //! Podrulka for Rust: build an index over compiled Prolog clauses, walk it for calls, ask for a witness.
 //!
 //! The functions are those of the proved archive `libpodrulka.a` (see `include/podrulka.h`), with slices for pointers and
-//! results as types. Every function is total: whatever it is handed, it answers or gives a [`Refusal`] with a number, and a
-//! refusal changes neither index nor out. Nothing is allocated and nothing is kept between calls.
+//! results as types. [`build`], [`walk`] and [`witness`] are total: whatever they are handed, they answer or give a
+//! [`Refusal`] with a number, and a refusal changes neither index nor out. Nothing is allocated and nothing is kept
+//! between calls.
 //!
 //! Code, call and index are bytes, 16 to a [`Record`], numbers little-endian. A call needs about [`STACK`] bytes of stack.
 //!
@@ -54,8 +55,10 @@ pub fn build(code: &[u8], starts: &[u32], settings: &Settings, c: u64, index: &m
 
 /// Walks the first `count` records of `index` for a call, one record for each argument. `code`, `starts` and `settings`
 /// are those that the index was built with. Tables are expanded on demand while there is room. The offsets of the
-/// selected clauses go to the first places of `out`, in source order; its other places are left as they were. Hand
-/// [`Walked::records`] to the next walk.
+/// selected clauses go to the first places of `out`, in source order; its other places are left as they were. On an index
+/// that [`build`] made for this code and these settings and that only walks have written since, every clause that agrees
+/// with the call is selected, once, and the case is [`Case::Fail`] only if none agrees. An index from elsewhere is only
+/// checked to be well formed: it may leave out clauses. Hand [`Walked::records`] to the next walk.
 ///
 /// # Errors
 /// Numbers 1, 3 to 7 and 10 to 12; `index` and `out` are then unchanged and the earlier count still holds.

@@ -11,7 +11,7 @@ use Rattle.indexing_iter.specs.declared.Settings.{Settings}
 use Rattle.indexing_iter.specs.Classes.{classOf}
 use Rattle.indexing.specs.Builder.{Built, buildCall}
 
--- bit k of sub
+-- the bit of sub whose value is k (1, 2, 4 or 8) is set
 abbrev pub bit : ℕ → ℕ → Bool
 bit sub k = eqb (sub / k % 2) 1
 
