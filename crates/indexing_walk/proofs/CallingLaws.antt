@@ -4,7 +4,6 @@ use mathlib.Core.Path.{_≡_, refl, sym, ap, ap₂, _∙_}
 use mathlib.Core.Bool.{Bool, true, false, cond, not, _&&_}
 use mathlib.Core.List.{List}
 use Prim.Native.Nat.{ℕ, _≤_, _<_}
-use native.Mathlib.Omega.{arith}
 use lib.Dec.{leb, ltb}
 use lib.ListN.{length, take}
 use borrow.Author.Tests.{le-leb, lt-leb, leb-true, ltb-false, not-false}
@@ -16,7 +15,7 @@ use Rattle.indexing_iter.specs.Classes.{classOf}
 use Rattle.indexing_iter.specs.Clauses.{known}
 use Rattle.indexing_iter.specs.Checks.{numberOf, orElse, checkCode}
 use Rattle.indexing_iter.proofs.KeyLaws.{not-refused}
-use Rattle.indexing.proofs.Tests.{and-true, bool-absurd}
+use Rattle.indexing.proofs.Tests.{and-true}
 use Rattle.indexing.specs.Builder.{capacityOf}
 use Rattle.well_formed.specs.WellFormed.{wellFormed}
 use Rattle.indexing_scan.specs.Calls.{checkCall, checkOut, checkIndex, walkedBy, resultOf, walkCall}

@@ -1,15 +1,14 @@
 -- Offsets that rise and are known are no more than the clauses.
 -- Assumes nothing.
 use mathlib.Core.Path.{_≡_, refl, sym, ap, _∙_}
-use mathlib.Core.Bool.{Bool, true, false, cond, not, _&&_, _||_}
+use mathlib.Core.Bool.{Bool, true, false, _&&_, _||_}
 use mathlib.Core.List.{List, [], _∷_}
-use Prim.Native.Nat.{ℕ, zero, suc, _+_, _≤_, _<_}
+use Prim.Native.Nat.{ℕ, suc, _≤_, _<_}
 use native.Mathlib.Omega.{arith}
 use lib.Dec.{eqb, leb}
 use lib.ListN.{length}
 use borrow.Author.Tests.{eqb-true}
 use Rattle.indexing_iter.specs.Clauses.{known, offsetsOf}
-use Rattle.indexing.proofs.Order.{Args}
 use Rattle.indexing.proofs.Tests.{and-true, both, le-true, le-of, bool-absurd, eqb-other}
 use Rattle.indexing_iter.proofs.CheckLaws.{Rising as Rises}
 use Rattle.well_formed.specs.WellFormed.{risingOk}

@@ -1,10 +1,10 @@
 -- A turn that ends in the line, and one at an on-demand table where nothing is stored any more.
 -- Assumes nothing.
 use mathlib.Core.Path.{_≡_, refl, sym, ap, ap₂, _∙_, subst}
-use mathlib.Core.Bool.{Bool, true, false, cond, not, _&&_}
+use mathlib.Core.Bool.{Bool, false, cond}
 use mathlib.Core.List.{List, [], _∷_, _++_}
 use mathlib.Core.Option.{Option, none as nothing, some}
-use Prim.Native.Nat.{ℕ, zero, suc, _+_, _-_, _≤_, _<_}
+use Prim.Native.Nat.{ℕ, zero, suc, _+_, _-_, _≤_}
 use native.Mathlib.Omega.{arith}
 use lib.Dec.{eqb}
 use lib.ListN.{length, getD, take, drop}
@@ -13,33 +13,30 @@ use Rattle.records.specs.declared.Rec.{Rec}
 use Rattle.records.specs.Records.{recordsOf, none}
 use Rattle.indexing_iter.specs.declared.OptArgIndexKey.{OptArgIndexKey as Key}
 use Rattle.indexing_iter.specs.declared.Settings.{Settings}
-use Rattle.indexing_iter.specs.declared.Checked.the-variants.{Passed}
-use Rattle.indexing_iter.specs.Checks.{checkCode}
 use Rattle.indexing_iter.specs.Classes.{classOf}
 use Rattle.indexing_iter.specs.Keys.{isOpen}
 use Rattle.indexing.proofs.BridgeGroups.{length-offs}
-use Rattle.indexing.specs.Build.{Program, openAt, virtual, lone}
+use Rattle.indexing.specs.Build.{Program, programOf, openAt, virtual, lone}
 use Rattle.indexing.specs.Builder.{capacityOf}
-use Rattle.indexing.specs.Lines.{Table, onDemand, Index, lineAt, offs, modeOf}
-use Rattle.indexing_scan.proofs.PlaceLaws.{at-demand, LeftDemand}
-use Rattle.indexing_scan.proofs.Steps.{Left}
+use Rattle.indexing.specs.Lines.{Table, onDemand, Index, offs, modeOf}
 use Rattle.indexing_scan.specs.Agree.{Call}
 use Rattle.indexing_scan.specs.Calls.{callOf}
 use Rattle.indexing.specs.Columns.{wordsOf}
 use Rattle.indexing_scan.specs.Places.{At, isTable, behindTable, offsetsAt}
 use Rattle.indexing_scan.specs.Unstored.{moveOf, Held, finishedBy}
-use Rattle.indexing_scan.specs.Walk.{Chosen, Step, Place, line, unstored, Move, skip, stop, pass, out, goto, Answer, look, act, enter, followNew, choose, demand, move, settle}
-use Rattle.indexing_scan.specs.Walk.{answerFrom, State, Result}
+use Rattle.indexing_scan.specs.Walk.{Chosen, Place, line, unstored, Move, skip, stop, pass, out, goto, Answer, look, act, enter, followNew, choose, demand, move, settle}
+use Rattle.indexing_scan.specs.Walk.{answerFrom}
 use Rattle.indexing_scan.specs.declared.unstored.Finished.{Finished}
 use Rattle.indexing_scan.specs.declared.unstored.Narrowed.{Narrowed}
 use Rattle.indexing_scan.specs.declared.unstored.Narrowed.the-variants.{NoTable, Passed as PassedBy, Failed, Single, Bucket}
 use Rattle.indexing_walk.specs.declared.Ended.{Ended}
+use Rattle.indexing_walk.specs.declared.Turned.the-variants.{On, Done}
 use Rattle.indexing_walk.specs.declared.Walking.{Walking}
-use Rattle.indexing_walk.specs.Walking.{indexIn, movedTo, endedBy, Stands, Comes, restOf, Ends, Went}
+use Rattle.indexing_walk.specs.Walking.{movedTo, endedBy, Went, Turns}
 use Rattle.indexing_walk.proofs.WalkLaws.{move-is}
-use Rattle.indexing_walk.proofs.StandLaws.{P, state, left-first, at-count}
+use Rattle.indexing_walk.proofs.StandLaws.{Ready, program, R, here, choices, there, AtDemand, left, first-is, left-it}
 use Rattle.indexing_walk.proofs.TurnLaws.{to-next, to-fail, to-out, to-new, to-end, turn-last}
-use Rattle.indexing_walk.proofs.LineLaws.{few-line, case-at, offs-count, offs-copied}
+use Rattle.indexing_walk.proofs.LineLaws.{LineRead, some-clause, few-line, case-at, offs-count, offs-copied}
 
 -- a demand is never without a table
 skips : Move → ℕ
@@ -75,94 +72,81 @@ unfolding answerFrom
 path-few Q K zero a idx p = omega arith
 path-few Q K (suc n) a idx p = act-few a n p (move Q idx p a (K a)) (λ q. answerFrom Q K n (suc a) idx q) (λ q. path-few Q K n (suc a) idx q)
 
-module _ (code starts : List ℕ) (S : Settings) (call b : List ℕ) (w : Walking) (st : Stands S starts b w)
-    (checked : checkCode classOf (S .arity) code starts ≡ Passed) where
-  abbrev R : List Rec
-  R = take (w .count) (recordsOf b)
+module _ {code starts : List ℕ} {S : Settings} {b : List ℕ} {w : Walking} (ready : Ready code starts S b w) (r : Rec) (is : r ≡ getD (R ready) (w .at) none)
+    (no-table : isTable (r .kind) ≡ false) where
+  none-left : ready .stands .tables ≡ []
+  none-left = turn-last ready r is no-table
 
-  abbrev here : Index
-  here = indexIn b (w .count)
-
-  abbrev program : Program
-  program = P code starts S call
-
-  abbrev os : List ℕ
-  os = offs (lineAt here (w .line) .choices)
+  at-end : At (modeOf (S .dynamic)) (here ready) (R ready) (w .line) [] (w .at)
+  at-end = subst (λ (x : List Table). At (modeOf (S .dynamic)) (here ready) (R ready) (w .line) x (w .at)) none-left (ready .stands .place)
 
   -- the list has room for the line's offsets
-  pub end-room : (r : Rec) → r ≡ getD R (w .at) none → isTable (r .kind) ≡ false → (n : ℕ) → n ≡ 1024 → (offsetsAt R (w .at) ≤ n) × (offsetsAt R (w .at) ≤ length starts)
-  end-room r is t n e =
-      let none-left : st .tables ≡ [] = turn-last code starts S call b w st r is t in
-      let at : At (modeOf (S .dynamic)) here R (w .line) [] (w .at) =
-      subst (λ (x : List Table). At (modeOf (S .dynamic)) here R (w .line) x (w .at)) none-left (st .place) in
-      let n = offs-count code starts S call b w st checked (w .at) at in
-      let f = few-line code starts S call b w st checked in
-      (omega (arith, e, n, f .1), omega (arith, n, f .0))
+  pub end-room : (n : ℕ) → n ≡ 1024 → offsetsAt (R ready) (w .at) ≤ n
+  end-room n e = omega (arith, e, offs-count ready (w .at) at-end, few-line ready .1)
 
   -- no table is left: the line's offsets are the answer's
-  pub turn-end : (r : Rec) → r ≡ getD R (w .at) none → isTable (r .kind) ≡ false → (new old : List ℕ) (e : Ended)
-      → e ≡ endedBy w (cond (eqb (w .line) 0) 4 3) (w .line) (offsetsAt R (w .at)) 0
-      → new ≡ wordsOf (slice (w .at) (w .at + offsetsAt R (w .at)) (recordsOf b)) ++ drop (offsetsAt R (w .at)) old
-      → (W : Result) → Comes W (w .tables) (restOf code starts S call b w) → Ends b new W e
-  turn-end r is t new old e f g W c =
-      let none-left : st .tables ≡ [] = turn-last code starts S call b w st r is t in
-      let at : At (modeOf (S .dynamic)) here R (w .line) [] (w .at) =
-      subst (λ (x : List Table). At (modeOf (S .dynamic)) here R (w .line) x (w .at)) none-left (st .place) in
-      subst (Ends b new W) (sym f)
-      (to-end code starts S call b w st new (cond (eqb (w .line) 0) 4 3) (offsetsAt R (w .at)) none-left (case-at (w .line))
-      (offs-count code starts S call b w st checked (w .at) at ∙ sym (length-offs (lineAt here (w .line) .choices)))
-      (offs-copied code starts S call b w st checked (w .at) at (offsetsAt R (w .at)) new old refl g) W c)
+  pub turn-end : (call new old : List ℕ) (e : Ended) → e ≡ endedBy w (cond (eqb (w .line) 0) 4 3) (w .line) (offsetsAt (R ready) (w .at)) 0
+      → new ≡ wordsOf (slice (w .at) (w .at + offsetsAt (R ready) (w .at)) (recordsOf b)) ++ drop (offsetsAt (R ready) (w .at)) old
+      → Turns code starts S call b w b new (Done e)
+  turn-end call new old e f g =
+      let n = offs-count ready (w .at) at-end in
+      subst (λ (y : Ended). Turns code starts S call b w b new (Done y)) (sym f)
+      (
+        to-end ready call new (cond (eqb (w .line) 0) 4 3) (offsetsAt (R ready) (w .at)) none-left (case-at (w .line))
+        (n ∙ sym (length-offs (choices ready))) (offs-copied ready (w .at) at-end (offsetsAt (R ready) (w .at)) new old refl g),
+        refl,
+        refl,
+        omega (arith, n, few-line ready .0),
+      )
 
-  -- an on-demand table, bound, and nothing is stored any more
-  module _ (a : ℕ) (key : Key) (k : getD R (w .at) none .kind ≡ 3) (half : a ≡ getD R (w .at) none .half) (bound : key ≡ callOf call a)
-      (shut : isOpen key ≡ false) where
-    abbrev left : LeftDemand (st .tables) (getD R (w .at) none .half)
-    left = at-demand (st .tables) (st .place) k
+-- by what the narrowing of the walk's line at argument a answers, the new list in its buffer: how the walk goes on or ends
+abbrev pub Narrows : (code starts : List ℕ) (S : Settings) (call b : List ℕ) (w : Walking) (a : ℕ) (new : List ℕ) → Narrowed → Type 0
+Narrows code starts S call b w a new NoTable = ⊥
+Narrows code starts S call b w a new (PassedBy h) = (q : ℕ) (v : Walking) → q ≡ behindTable (take (w .count) (recordsOf b)) (w .at) → v ≡ movedTo w (w .line) q a
+    → Turns code starts S call b w b new (On v)
+Narrows code starts S call b w a new Failed = (e : Ended) → e ≡ endedBy w 1 0 0 1 → Turns code starts S call b w b new (Done e)
+Narrows code starts S call b w a new (Single h x) = (e : Ended) → e ≡ endedBy w 2 0 1 1 → Turns code starts S call b w b new (Done e)
+Narrows code starts S call b w a new (Bucket h m) =
+    let A = answerFrom (programOf classOf S (recordsOf code) starts) (callOf call) (S .arity + 1 - (a + 1)) (a + 1) [] (unstored (take m new)) in
+    (list : List ℕ) (f : Finished) (e : Ended) → f ≡ finishedBy A → take (f .count) list ≡ A .offsets → f .count ≤ m
+    → e ≡ endedBy w (f .case) 0 (f .count) (1 + f .tables) → Turns code starts S call b w b list (Done e)
 
-    abbrev due-one : Table
-    due-one = onDemand a
+-- an on-demand table, bound, and nothing is stored any more
+module _ {code starts : List ℕ} {S : Settings} {b : List ℕ} {w : Walking} {a : ℕ} (due : AtDemand code starts S b w a) (call : List ℕ) (key : Key)
+    (bound : key ≡ callOf call a) (shut : isOpen key ≡ false) (off : w .storing ≡ false) where
+  abbrev ready : Ready code starts S b w
+  ready = due .ready
 
-    pub first-is : st .tables ≡ due-one ∷ left .later
-    first-is = left .is ∙ ap (λ (y : ℕ). onDemand y ∷ left .later) (sym half)
+  abbrev os : List ℕ
+  os = offs (choices ready)
 
-    o : isOpen (callOf call a) ≡ false
-    o = ap isOpen (sym bound) ∙ shut
+  settled : settle (program ready) (capacityOf b) (there ready) (line (w .line)) a (callOf call a) ≡ there ready
+  settled = rw off refl
 
-    pub below : w .at < w .count
-    below = at-count code starts S call b w st due-one (left .later) first-is
+  moves : move (program ready) (here ready) (line (w .line)) a (callOf call a) ≡ demand (program ready) a (callOf call a) os (openAt (program ready) a os)
+  moves =
+      move-is (program ready) (here ready) (w .line) (w .from) (callOf call a) (onDemand a) (left due .later) (left-it due)
+      ∙ ap (λ (y : Bool). cond y (pass 1) (demand (program ready) a (callOf call a) os (openAt (program ready) a os))) (ap isOpen (sym bound) ∙ shut)
 
-    module _ (off : w .storing ≡ false) where
-     settled : settle program (capacityOf b) (state code starts S call b w st) (line (w .line)) a (callOf call a) ≡ state code starts S call b w st
-     settled = rw off refl
+  narrows-by : (new old : List ℕ) (m : ℕ) (x : Narrowed) → m ≤ length starts → move (program ready) (here ready) (line (w .line)) a (callOf call a) ≡ moveOf x new
+      → skips (moveOf x new) ≡ 0 → Held starts m old new x → Narrows code starts S call b w a new x
+  unfolding skips
+  narrows-by new old m NoTable n e z h = absurd (omega (arith, z))
+  narrows-by new old m (PassedBy y) n e z h = λ q v f g.
+      subst (Went code starts S call b w b) (sym g) (to-next ready call (onDemand a) (left due .later) (first-is due) y q settled e f)
+  narrows-by new old m Failed n e z h = λ d g.
+      subst (λ (y : Ended). Turns code starts S call b w b new (Done y)) (sym g)
+      (to-fail ready call (onDemand a) (left due .later) (first-is due) new settled e, refl, refl, omega arith)
+  narrows-by new old m (Single y x) n e z h = λ d g.
+      subst (λ (y : Ended). Turns code starts S call b w b new (Done y)) (sym g)
+      (to-out ready call (onDemand a) (left due .later) (first-is due) new y x settled e (h .front), refl, refl, some-clause ready)
+  narrows-by new old m (Bucket y j) n e z h = λ list f d p q k g.
+      subst (λ (y : Ended). Turns code starts S call b w b list (Done y)) (sym g)
+      (to-new ready call (onDemand a) (left due .later) (first-is due) list y (take j new) f settled e p q, refl, refl, omega (arith, k, h .within, n))
 
-     moves : move program here (line (w .line)) a (callOf call a) ≡ demand program a (callOf call a) os (openAt program a os)
-     moves =
-         move-is program here (w .line) (w .from) (callOf call a) due-one (left .later) (left-first code starts S call b w st due-one (left .later) first-is)
-         ∙ ap (λ (y : Bool). cond y (pass 1) (demand program a (callOf call a) os (openAt program a os))) o
-
-     abbrev pub Narrows : List ℕ → Narrowed → Type 0
-     Narrows new NoTable = ⊥
-     Narrows new (PassedBy h) = (q : ℕ) → q ≡ behindTable R (w .at) → Went code starts S call b w b (movedTo w (w .line) q a)
-     Narrows new Failed = (W : Result) → Comes W (w .tables) (restOf code starts S call b w) → Ends b new W (endedBy w 1 0 0 1)
-     Narrows new (Single h x) = (W : Result) → Comes W (w .tables) (restOf code starts S call b w) → Ends b new W (endedBy w 2 0 1 1)
-     Narrows new (Bucket h m) = (list : List ℕ) (f : Finished)
-         → f ≡ finishedBy (answerFrom program (callOf call) (S .arity + 1 - (a + 1)) (a + 1) [] (unstored (take m new)))
-         → take (f .count) list ≡ answerFrom program (callOf call) (S .arity + 1 - (a + 1)) (a + 1) [] (unstored (take m new)) .offsets
-         → (W : Result) → Comes W (w .tables) (restOf code starts S call b w) → Ends b list W (endedBy w (f .case) 0 (f .count) (1 + f .tables))
-
-     narrows-by : (new old : List ℕ) (m : ℕ) (x : Narrowed) → move program here (line (w .line)) a (callOf call a) ≡ moveOf x new
-         → skips (moveOf x new) ≡ 0 → Held starts m old new x → Narrows new x
-     unfolding skips
-     narrows-by new old m NoTable e z h = absurd (omega (arith, z))
-     narrows-by new old m (PassedBy y) e z h = λ q f. to-next code starts S call b w st due-one (left .later) first-is y q settled e f
-     narrows-by new old m Failed e z h = to-fail code starts S call b w st due-one (left .later) first-is new settled e
-     narrows-by new old m (Single y x) e z h = to-out code starts S call b w st due-one (left .later) first-is new y x settled e (h .front)
-     narrows-by new old m (Bucket y j) e z h = λ list f p q.
-         to-new code starts S call b w st due-one (left .later) first-is list y (take j new) f settled e p q
-
-     pub narrows : (new old : List ℕ) (m : ℕ) (x : Narrowed) → take m old ≡ os
-         → moveOf x new ≡ demand program a key (take m old) (openAt program a (take m old)) → Held starts m old new x → Narrows new x
-     narrows new old m x e f h =
-         let g : moveOf x new ≡ demand program a (callOf call a) os (openAt program a os) =
-         f ∙ ap₂ (λ (z : Key) (y : List ℕ). demand program a z y (openAt program a y)) bound e in
-         narrows-by new old m x (moves ∙ sym g) (ap skips g ∙ demand-looks program a (callOf call a) os (openAt program a os)) h
+  pub narrows : (new old : List ℕ) (m : ℕ) (x : Narrowed) → LineRead starts b w m old
+      → moveOf x new ≡ demand (program ready) a key (take m old) (openAt (program ready) a (take m old)) → Held starts m old new x → Narrows code starts S call b w a new x
+  narrows new old m x l f h =
+      let g : moveOf x new ≡ demand (program ready) a (callOf call a) os (openAt (program ready) a os) =
+      f ∙ ap₂ (λ (z : Key) (y : List ℕ). demand (program ready) a z y (openAt (program ready) a y)) bound (l .offsets) in
+      narrows-by new old m x (l .few) (moves ∙ sym g) (ap skips g ∙ demand-looks (program ready) a (callOf call a) os (openAt (program ready) a os)) h

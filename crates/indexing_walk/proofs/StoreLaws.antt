@@ -15,8 +15,6 @@ use Rattle.records.specs.Records.{recordsOf, none, encode, Wrote}
 use Rattle.records.proofs.Laws.{length-encode}
 use Rattle.records.proofs.Whole.{Bytes, wrote-front}
 use Rattle.indexing_iter.specs.declared.Settings.{Settings}
-use Rattle.indexing_iter.specs.declared.Checked.the-variants.{Passed}
-use Rattle.indexing_iter.specs.Checks.{checkCode}
 use Rattle.indexing_iter.specs.Classes.{classOf}
 use Rattle.indexing_iter.specs.Clauses.{known}
 use Rattle.indexing_iter.specs.Keys.{isOpen}
@@ -24,7 +22,6 @@ use Rattle.indexing_iter.proofs.KeyLaws.{known-small}
 use Rattle.indexing.proofs.Expand.{opens, outcome, new-table, length-expand, expanded-arg}
 use Rattle.indexing.proofs.Grown.{grown-same, grown-more, grown-size}
 use Rattle.indexing.proofs.Size.{length-records}
-use Rattle.indexing.specs.Build.{Program}
 use Rattle.indexing.specs.Builder.{capacityOf, stored}
 use Rattle.indexing.specs.Expand.{expanded, expand}
 use Rattle.indexing.specs.Lines.{Table, onDemand, argOf, Index, lineAt, find, size, modeOf, records}
@@ -34,7 +31,7 @@ use Rattle.well_formed.proofs.Sound.{args-true, ok-parse, ok-expand}
 use Rattle.well_formed.proofs.WellFormed.{well-orderly}
 use Rattle.well_formed.specs.WellFormed.{indexOk}
 use Rattle.indexing_scan.proofs.ExpandedLaws.{at-expanded}
-use Rattle.indexing_scan.proofs.PlaceLaws.{at-demand, at-record, LeftDemand}
+use Rattle.indexing_scan.proofs.PlaceLaws.{at-record}
 use Rattle.indexing_scan.proofs.Steps.{Left}
 use Rattle.indexing_scan.specs.Calls.{callOf}
 use Rattle.indexing_scan.specs.Places.{At, headRec}
@@ -43,7 +40,7 @@ use Rattle.indexing_walk.specs.declared.Walking.{Walking}
 use Rattle.indexing_walk.specs.Walking.{indexIn, Stands, Kept, Comes, restOf, turnsLeft, Went}
 use Rattle.indexing_walk.proofs.WalkLaws.{rest, found, at-left, expands, refuses, not-demand}
 use Rattle.indexing_builder.proofs.BuilderLaws.{capacity-within}
-use Rattle.indexing_walk.proofs.StandLaws.{P, orderly, left-first, place-first, arg-range, at-count}
+use Rattle.indexing_walk.proofs.StandLaws.{Ready, program, here, choices, orderly, AtDemand, left, left-it, range, placed}
 
 -- an index stored over a smaller one
 pub stored-over : (d : Bool) (x y : Index) (b₀ b : List ℕ) → size x ≤ size y → b ≡ stored d x b₀ → stored d y b ≡ stored d y b₀
@@ -57,66 +54,43 @@ stored-over d x y b₀ b h e =
     (ap₂ drop k e ∙ drop-append-add front (drop (16 * size x) b₀) (16 * size y - 16 * size x)
     ∙ drop-drop (16 * size y - 16 * size x) (16 * size x) b₀ ∙ ap (λ (z : ℕ). drop z b₀) m)
 
-module _ (code starts : List ℕ) (S : Settings) (call b : List ℕ) (w : Walking) (st : Stands S starts b w)
-    (checked : checkCode classOf (S .arity) code starts ≡ Passed) (a : ℕ) (kind : getD (take (w .count) (recordsOf b)) (w .at) none .kind ≡ 3)
-    (half : a ≡ getD (take (w .count) (recordsOf b)) (w .at) none .half) where
-  abbrev here : Index
-  here = indexIn b (w .count)
+module _ {code starts : List ℕ} {S : Settings} {b : List ℕ} {w : Walking} {a : ℕ} (due : AtDemand code starts S b w a) where
+  abbrev ready : Ready code starts S b w
+  ready = due .ready
 
-  abbrev program : Program
-  program = P code starts S call
+  abbrev st : Stands S starts b w
+  st = ready .stands
 
   abbrev mode : ℕ
   mode = modeOf (S .dynamic)
 
   abbrev pub after : Index
-  after = expand program here (w .line) a
+  after = expand (program ready) (here ready) (w .line) a
 
-  abbrev left : LeftDemand (st .tables) (getD (take (w .count) (recordsOf b)) (w .at) none .half)
-  left = at-demand (st .tables) (st .place) kind
-
-  first-is : st .tables ≡ onDemand a ∷ left .later
-  first-is = left .is ∙ ap (λ (y : ℕ). onDemand y ∷ left .later) (sym half)
-
-  left-it : Left program here (line (w .line)) (w .from) (onDemand a ∷ left .later)
-  left-it = left-first code starts S call b w st (onDemand a) (left .later) first-is
-
-  pub dem : find a (lineAt here (w .line) .tables) ≡ some (onDemand a)
-  dem = found program here (w .line) (w .from) (onDemand a) (left .later) left-it
-
-  range : (w .from ≤ a) × (a ≤ S .arity)
-  range = arg-range code starts S call b w st (onDemand a) (left .later) first-is
-
-  pub range-arg : (1 ≤ a) × (a ≤ S .arity)
-  range-arg = (omega (arith, range .0, st .first), range .1)
-
-  pub placed : At mode here (take (w .count) (recordsOf b)) (w .line) (onDemand a ∷ left .later) (w .at)
-  placed = place-first code starts S call b w st (onDemand a) (left .later) first-is
-
-  pub below-count : w .at < w .count
-  below-count = at-count code starts S call b w st (onDemand a) (left .later) first-is
+  pub dem : find a (lineAt (here ready) (w .line) .tables) ≡ some (onDemand a)
+  dem = found (program ready) (here ready) (w .line) (w .from) (onDemand a) (left due .later) (left-it due)
 
   sound : indexOk (S .arity) (S .dynamic) (known starts) after ≡ true
-  sound = ok-expand program (known starts) (λ o c. code-keys classOf (S .arity) code starts o c checked) here (w .line) a a (st .place .line) dem (st .sound)
+  sound = ok-expand (program ready) (known starts) (λ o c. code-keys classOf (S .arity) code starts o c (ready .checked)) (here ready) (w .line) a a (st .place .line) dem (st .sound)
 
   parsed : parse (records mode 0 after) ≡ after
-  parsed = ok-parse program (known starts) (λ o k. omega (arith, known-small classOf (S .arity) code starts o k checked)) after sound
+  parsed = ok-parse (program ready) (known starts) (λ o k. omega (arith, known-small classOf (S .arity) code starts o k (ready .checked))) after sound
 
   lines-more : w .line < length after
-  lines-more = omega (arith, st .place .line, length-expand program here (w .line) a)
+  lines-more = omega (arith, st .place .line, length-expand (program ready) (here ready) (w .line) a)
 
   now-is : Table
-  now-is = outcome program here (w .line) a
+  now-is = outcome (program ready) (here ready) (w .line) a
 
   its-arg : argOf now-is ≡ a
   unfolding now-is
-  its-arg = expanded-arg program a (lineAt here (w .line) .choices) (length here - w .line - 1) (opens program here (w .line) a)
+  its-arg = expanded-arg (program ready) a (lineAt (here ready) (w .line) .choices) (length (here ready) - w .line - 1) (opens (program ready) (here ready) (w .line) a)
 
   not-three : eqb (headRec now-is .kind) 3 ≡ false
   unfolding now-is
-  not-three = go (opens program here (w .line) a)
+  not-three = go (opens (program ready) (here ready) (w .line) a)
     where
-      go : (os : List ℕ) → eqb (headRec (expanded program a (lineAt here (w .line) .choices) (length here - w .line - 1) os) .kind) 3 ≡ false
+      go : (os : List ℕ) → eqb (headRec (expanded (program ready) a (lineAt (here ready) (w .line) .choices) (length (here ready) - w .line - 1) os) .kind) 3 ≡ false
       go [] = refl
       go (o ∷ os) = refl
 
@@ -135,14 +109,14 @@ module _ (code starts : List ℕ) (S : Settings) (call b : List ℕ) (w : Walkin
     same-room : capacityOf b′ ≡ capacityOf b
     same-room = ap (λ (n : ℕ). min (n / 16) 65535) long
 
-    at-after : At mode after (take (size after) (recordsOf b′)) (w .line) (now-is ∷ left .later) (w .at)
+    at-after : At mode after (take (size after) (recordsOf b′)) (w .line) (now-is ∷ left due .later) (w .at)
     unfolding now-is
-    at-after = at-expanded program placed (orderly code starts S call b w st .rises (w .line) (st .place .line)) (st .records-are) front
+    at-after = at-expanded (program ready) (placed due) (orderly ready .rises (w .line) (st .place .line)) (st .records-are) front
 
-    left-after : Left program after (line (w .line)) a (now-is ∷ left .later)
+    left-after : Left (program ready) after (line (w .line)) a (now-is ∷ left due .later)
     left-after =
-        subst (λ (x : ℕ). Left program after (line (w .line)) x (now-is ∷ left .later)) its-arg
-        (at-left program at-after (well-orderly program (known starts) after sound .rises (w .line) lines-more))
+        subst (λ (x : ℕ). Left (program ready) after (line (w .line)) x (now-is ∷ left due .later)) its-arg
+        (at-left (program ready) at-after (well-orderly (program ready) (known starts) after sound .rises (w .line) lines-more))
 
     stands-after : Stands S starts b′ stored-at
     stands-after = record {
@@ -150,22 +124,22 @@ module _ (code starts : List ℕ) (S : Settings) (call b : List ℕ) (w : Walkin
       sound = ap (indexOk (S .arity) (S .dynamic) (known starts)) is-after ∙ sound;
       fits = rw same-room fits;
       lines-are = ap length (sym is-after);
-      tables = now-is ∷ left .later;
+      tables = now-is ∷ left due .later;
       place = rw is-after at-after;
-      later = args-true (S .arity) a (now-is ∷ left .later) (left-after .args);
+      later = args-true (S .arity) a (now-is ∷ left due .later) (left-after .args);
       finds = rw is-after (left-after .looks);
-      first = omega (arith, st .first, range .0);
-      last = omega (arith, range .1);
+      first = omega (arith, st .first, range due .0);
+      last = omega (arith, range due .1);
     }
 
     fewer-after : turnsLeft S b′ stored-at < turnsLeft S b w
     unfolding turnsLeft
     fewer-after =
         let n : eqb (getD (take (size after) (recordsOf b′)) (w .at) none .kind) 3 ≡ false = ap (λ (r : Rec). eqb (r .kind) 3) (at-record at-after) ∙ not-three in
-        let m : eqb (getD (take (w .count) (recordsOf b)) (w .at) none .kind) 3 ≡ true = ap (λ (x : ℕ). eqb x 3) kind in
+        let m : eqb (getD (take (w .count) (recordsOf b)) (w .at) none .kind) 3 ≡ true = ap (λ (x : ℕ). eqb x 3) (due .kind) in
         let x : cond {A = ℕ} (eqb (getD (take (size after) (recordsOf b′)) (w .at) none .kind) 3) 1 0 ≡ 0 = ap (λ (z : Bool). cond {A = ℕ} z 1 0) n in
         let y : cond {A = ℕ} (eqb (getD (take (w .count) (recordsOf b)) (w .at) none .kind) 3) 1 0 ≡ 1 = ap (λ (z : Bool). cond {A = ℕ} z 1 0) m in
-        omega (arith, x, y, range .0, range .1)
+        omega (arith, x, y, range due .0, range due .1)
 
     kept-after : (b₀ : List ℕ) → Kept S b₀ b (w .count) → Kept S b₀ b′ (size after)
     unfolding stored
@@ -174,20 +148,20 @@ module _ (code starts : List ℕ) (S : Settings) (call b : List ℕ) (w : Walkin
         let g : Wrote b b′ (records mode 0 after ++ drop (length (records mode 0 after)) (recordsOf b)) = rw n wrote in
         let z : b′ ≡ encode (records mode 0 after) ++ drop (16 * length (records mode 0 after)) b =
         wrote-front b b′ (records mode 0 after) bytes bytes′ (omega (arith, n, fits, capacity-within b)) g in
-        let more : size here ≤ size after = grown-size program (capacityOf b) (grown-more (w .line) a a (st .place .line) dem fits grown-same) in
-        rw is-after (z ∙ ap (λ (k : ℕ). encode (records mode 0 after) ++ drop (16 * k) b) n ∙ stored-over (S .dynamic) here after b₀ b more e)
+        let more : size (here ready) ≤ size after = grown-size (program ready) (capacityOf b) (grown-more (w .line) a a (st .place .line) dem fits grown-same) in
+        rw is-after (z ∙ ap (λ (k : ℕ). encode (records mode 0 after) ++ drop (16 * k) b) n ∙ stored-over (S .dynamic) (here ready) after b₀ b more e)
 
-    module _ (on : w .storing ≡ true) (shut : isOpen (callOf call a) ≡ false) where
+    module _ (call : List ℕ) (on : w .storing ≡ true) (shut : isOpen (callOf call a) ≡ false) where
       comes-after : (W : Result) → Comes W (w .tables) (restOf code starts S call b w) → Comes W (w .tables) (restOf code starts S call b′ stored-at)
       unfolding restOf rest
       comes-after W c =
-          let from-on : restOf code starts S call b w ≡ rest program (capacityOf b) (callOf call) (record { storing = true; index = here }) (w .line) (w .from) =
-          λ i. walkFrom program (capacityOf b) (callOf call) (S .arity + 1 - w .from) (w .from) (record { storing = on i; index = here }) (line (w .line)) in
-          let to-on : restOf code starts S call b′ stored-at ≡ rest program (capacityOf b) (callOf call) (record { storing = true; index = after }) (w .line) a =
-          λ i. walkFrom program (same-room i) (callOf call) (S .arity + 1 - a) a (record { storing = on i; index = is-after i }) (line (w .line)) in
+          let from-on : restOf code starts S call b w ≡ rest (program ready) (capacityOf b) (callOf call) (record { storing = true; index = (here ready) }) (w .line) (w .from) =
+          λ i. walkFrom (program ready) (capacityOf b) (callOf call) (S .arity + 1 - w .from) (w .from) (record { storing = on i; index = (here ready) }) (line (w .line)) in
+          let to-on : restOf code starts S call b′ stored-at ≡ rest (program ready) (capacityOf b) (callOf call) (record { storing = true; index = after }) (w .line) a =
+          λ i. walkFrom (program ready) (same-room i) (callOf call) (S .arity + 1 - a) a (record { storing = on i; index = is-after i }) (line (w .line)) in
           subst (Comes W (w .tables)) (sym to-on)
-          (expands program (capacityOf b) (callOf call) W (w .tables) here (w .line) (w .from) a (left .later) (outcome program here (w .line) a) left-it shut fits
-          (new-table program here (w .line) a (st .place .line) (onDemand a) dem) (not-demand program here (w .line) a)
+          (expands (program ready) (capacityOf b) (callOf call) W (w .tables) (here ready) (w .line) (w .from) a (left due .later) (outcome (program ready) (here ready) (w .line) a) (left-it due) shut fits
+          (new-table (program ready) (here ready) (w .line) a (st .place .line) (onDemand a) dem) (not-demand (program ready) (here ready) (w .line) a)
           (subst (Comes W (w .tables)) from-on c))
 
       pub went-stored : Went code starts S call b w b′ stored-at
@@ -197,13 +171,13 @@ module _ (code starts : List ℕ) (S : Settings) (call b : List ℕ) (w : Walkin
   abbrev pub unstored-at : Walking
   unstored-at = record { line = w .line; at = w .at; from = w .from; count = w .count; lines = w .lines; storing = false; tables = w .tables }
 
-  module _ (over : capacityOf b < size after) (on : w .storing ≡ true) (shut : isOpen (callOf call a) ≡ false) where
+  module _ (over : capacityOf b < size after) (call : List ℕ) (on : w .storing ≡ true) (shut : isOpen (callOf call a) ≡ false) where
     comes-over : (W : Result) → Comes W (w .tables) (restOf code starts S call b w) → Comes W (w .tables) (restOf code starts S call b unstored-at)
     unfolding restOf rest
     comes-over W c =
-        let from-on : restOf code starts S call b w ≡ rest program (capacityOf b) (callOf call) (record { storing = true; index = here }) (w .line) (w .from) =
-        λ i. walkFrom program (capacityOf b) (callOf call) (S .arity + 1 - w .from) (w .from) (record { storing = on i; index = here }) (line (w .line)) in
-        refuses program (capacityOf b) (callOf call) W (w .tables) here (w .line) (w .from) a (left .later) left-it shut over (subst (Comes W (w .tables)) from-on c)
+        let from-on : restOf code starts S call b w ≡ rest (program ready) (capacityOf b) (callOf call) (record { storing = true; index = (here ready) }) (w .line) (w .from) =
+        λ i. walkFrom (program ready) (capacityOf b) (callOf call) (S .arity + 1 - w .from) (w .from) (record { storing = on i; index = (here ready) }) (line (w .line)) in
+        refuses (program ready) (capacityOf b) (callOf call) W (w .tables) (here ready) (w .line) (w .from) a (left due .later) (left-it due) shut over (subst (Comes W (w .tables)) from-on c)
 
     fewer-over : turnsLeft S b unstored-at < turnsLeft S b w
     unfolding turnsLeft

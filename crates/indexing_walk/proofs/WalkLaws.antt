@@ -4,29 +4,29 @@ use mathlib.Core.Path.{_≡_, refl, sym, ap, ap₂, _∙_, subst}
 use mathlib.Core.Bool.{Bool, true, false, cond, not, _&&_}
 use mathlib.Core.List.{List, [], _∷_, _++_}
 use mathlib.Core.Option.{Option, none, some}
-use Prim.Native.Nat.{ℕ, zero, suc, _+_, _-_, _≤_, _<_}
+use Prim.Native.Nat.{ℕ, suc, _+_, _-_, _≤_, _<_}
 use native.Mathlib.Numerals.{add-one}
 use native.Mathlib.Omega.{arith}
 use lib.ListN.{length}
 use Rattle.records.specs.declared.Rec.{Rec}
 use Rattle.indexing_iter.specs.Keys.{isOpen}
 use Rattle.indexing_iter.specs.declared.OptArgIndexKey.{OptArgIndexKey as Key}
-use Rattle.indexing.proofs.Expand.{opens, outcome, length-expand, expanded-arg}
-use Rattle.indexing.proofs.Order.{Args, Beyond, beyond-ext, beyond-int, Orderly, orderly-expand}
+use Rattle.indexing.proofs.Expand.{opens, outcome}
+use Rattle.indexing.proofs.Order.{Args, Beyond, beyond-ext, beyond-int, Orderly}
 use Rattle.indexing.proofs.Tests.{eqb-same, eqb-other}
-use Rattle.indexing.specs.Build.{Program, openAt}
+use Rattle.indexing.specs.Build.{Program}
 use Rattle.indexing.specs.Expand.{expanded, expand}
-use Rattle.indexing.specs.Lines.{Ptr, ext, int, Entry, Table, switch, onDemand, dead, argOf, Choice, Index, lineAt, offs, find, size}
+use Rattle.indexing.specs.Lines.{Ptr, ext, int, Entry, Table, switch, onDemand, argOf, Index, lineAt, find, size}
 use Rattle.indexing_scan.proofs.Choose.{Ways, ways-none, ways-some, choose-linked}
-use Rattle.indexing_scan.proofs.ExpandedLaws.{at-find, at-expanded}
+use Rattle.indexing_scan.proofs.ExpandedLaws.{at-find}
 use Rattle.indexing_scan.proofs.Steps.{Left, walk-to, walk-end}
 use Rattle.indexing_walk.specs.Walking.{Comes}
 use Rattle.indexing_scan.proofs.UnstoredWalk.{walk-new}
 use Rattle.indexing_scan.proofs.Walks.{settle-quiet, settle-fits, settle-full, step}
 use Rattle.indexing_scan.specs.Agree.{Call}
 use Rattle.indexing_scan.specs.Places.{At}
-use Rattle.indexing_scan.specs.Walk.{Chosen, Step, Place, line, unstored, Move, skip, stop, pass, out, goto, fail, external, Answer, act, follow, choose}
-use Rattle.indexing_scan.specs.Walk.{lead, demand, moveOn, move, ending, State, Result, lookAt, result, due, isOnDemand, settle, answerFrom, walkFrom}
+use Rattle.indexing_scan.specs.Walk.{Chosen, Step, Place, line, unstored, Move, skip, stop, pass, out, goto, fail, external, act, choose}
+use Rattle.indexing_scan.specs.Walk.{moveOn, move, ending, State, Result, lookAt, result, due, isOnDemand, settle, answerFrom, walkFrom}
 
 pub comes-start : (W : Result) → Comes W 0 W
 comes-start W = record { kind = refl; offsets = refl; path = omega arith; number = refl; whole = refl; left = refl }

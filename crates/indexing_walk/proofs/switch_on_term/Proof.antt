@@ -1,4 +1,4 @@
-use mathlib.Core.Path.{_≡_, _∙_, sym}
+use mathlib.Core.Path.{_∙_, sym}
 use Rattle.indexing_walk.proofs.CallingLaws.{index-passed, out-passed, refused-1, refused-2, refused-3, refused-4, accepted}
 use borrow.Author.Needs.{needs}
 use Rattle.indexing_walk.proofs.switch_on_term.Statement.{statement}

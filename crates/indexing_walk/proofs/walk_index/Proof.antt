@@ -1,8 +1,7 @@
-use mathlib.Core.Path.{_≡_, _∙_, sym}
-use Prim.Native.Nat.{ℕ, _≤_}
+use mathlib.Core.Path.{_≡_}
+use Prim.Native.Nat.{_≤_}
 use native.Mathlib.Omega.{arith}
-use lib.ListN.{length, take}
-use Rattle.records.specs.Records.{recordsOf}
+use lib.ListN.{length}
 use Rattle.indexing_iter.specs.Classes.{classOf}
 use Rattle.indexing_iter.proofs.KeyLaws.{code-ok}
 use Rattle.indexing_scan.specs.Calls.{resultOf}

@@ -1,6 +1,6 @@
-use mathlib.Core.Path.{_≡_, refl, _∙_, sym, ap, subst}
+use mathlib.Core.Path.{_≡_, refl, _∙_, sym, subst}
 use mathlib.Core.List.{List}
-use Prim.Native.Nat.{ℕ, _<_}
+use Prim.Native.Nat.{ℕ}
 use lib.ListN.{length}
 use Rattle.indexing_scan.specs.Walk.{Result}
 use Rattle.indexing_walk.specs.Walking.{Stands, Comes, restOf, Kept, turnsLeft, Ends}

@@ -1,15 +1,9 @@
-use mathlib.Core.Path.{_≡_, refl, _∙_, sym, ap, subst}
-use Prim.Native.Nat.{ℕ, _+_, _-_, _≤_, _<_}
+use mathlib.Core.Path.{_≡_}
 use native.Mathlib.Omega.{arith}
-use lib.ListN.{length, take, getD}
-use Rattle.records.specs.Records.{recordsOf}
-use Rattle.indexing_walk.specs.Walking.{WentBound}
+use lib.ListN.{length}
+use Rattle.indexing_walk.proofs.StandLaws.{AtDemand, within, range-arg, below-count}
 use Rattle.indexing_walk.proofs.ReadyLaws.{small}
-use Rattle.indexing_walk.proofs.LineLaws.{place-in}
-use Rattle.indexing_walk.proofs.StandLaws.{within}
-use Rattle.indexing_walk.proofs.StoreLaws.{range-arg, below-count}
-use Rattle.indexing_walk.proofs.ExpandLaws.{read-count, read-offs, read-tags, all-known, grows}
-use mathlib.Core.List.{[]}
+use Rattle.indexing_walk.proofs.ExpandLaws.{read-count, read-offs, read-tags, all-known, Grows, grows}
 use borrow.Author.Needs.{needs}
 use Rattle.indexing_walk.proofs.store.store_line.Statement.{statement}
 use Rattle.indexing_walk.proofs.store.store_line.Tie as tie
@@ -21,19 +15,34 @@ use Rattle.indexing_builder.proofs.expansion.indices_of_arg.Reads as indices-of
 use Rattle.indexing_walk.proofs.store.expanded_at.Reads as expanded-at-reads
 use Rattle.indexing_walk.proofs.store.unstored_from.Reads as unstored-from-reads
 
+-- the walk is at an on-demand table, in checked code
+due : (s : tie.Start) → AtDemand (s .args .code .now) (s .args .starts .now) (s .args .settings) (s .args .index .now) (s .args .w) (s .args .a)
+due s = record { ready = record { checked = s .pre .0; stands = s .pre .1 .0 }; kind = s .pre .1 .1 .1 .1 .0; half = s .pre .1 .1 .1 .1 .1 }
+
+-- where the walk stands by the expansion's answer
+grown : (c : tie.After-slice-known6)
+    → let a = c .before .before .before .before .before .before .before .before .before .before .before .before .before .before .before .before .before .before .before .before .before .args in
+      let d = c .before .before .indices-of-arg in
+      Grows (a .code .now) (a .starts .now) (a .settings) (a .index .now) (a .w) (a .a) (d .last .1 .1 .1 .0) (d .result)
+grown c =
+    let s = c .before .before .before .before .before .before .before .before .before .before .before .before .before .before .before .before .before .before .before .before .before in
+    let a = s .args in
+    let line = s .pre .1 .1 .1 .0 in
+    let r = c .before .before .before .before .before .before .before .before .before .before .before .before .read-choices in
+    let list = r .last .1 .1 .1 .0 in
+    let tags = r .last .1 .1 .1 .1 .0 in
+    let k = c .before .before .before .before .before .before .capacity in
+    let d = c .before .before .indices-of-arg in
+    let len : length (d .last .1 .1 .1 .0) ≡ length (a .index .now) = search needs in
+    grows (due s) list tags (read-offs (due s) (a .q) (a .m) (line .0) (line .1) list (r .ensures .0)) (read-tags (due s) (a .q) (a .m) (line .0) (line .1) tags (r .ensures .1))
+    (d .last .1 .1 .1 .0) (λ i. omega (arith, c .before .before .before .before .before .before .before .before .before .before .before .before .before .before .before .before .before .before .slice-known .given i)) (λ i. omega (arith, c .slice-known6 .given i)) len (s .pre .1 .1 .0 .2)
+    (k .result) (k .ensures .0) (d .result) (d .ensures .0) (d .ensures .1)
+
 read-choices-requires : tie.Need-read-choices-requires
 read-choices-requires c κs =
     let s = c .before .before .before .before .before .before .before .before in
-    let a = s .args in
-    let ok = s .pre .0 in
-    let st = s .pre .1 .0 in
-    let eq = s .pre .1 .1 .1 .0 .0 in
-    let em = s .pre .1 .1 .1 .0 .1 in
-    let kind = s .pre .1 .1 .1 .1 .0 in
-    let half = s .pre .1 .1 .1 .1 .1 in
-    let cnt = read-count (a .code .now) (a .starts .now) (a .settings) (a .index .now) (a .w) st ok (a .a) kind half (a .q) (a .m) eq em in
-    let n = within (a .code .now) (a .starts .now) (a .settings) [] (a .index .now) (a .w) st in
-    (omega (arith, cnt .0, n), s .pre .1 .1 .0 .0, s .pre .1 .1 .0 .1)
+    let line = s .pre .1 .1 .1 .0 in
+    (omega (arith, read-count (due s) (s .args .q) (s .args .m) (line .0) (line .1) .0, within (due s .ready)), s .pre .1 .1 .0 .0, s .pre .1 .1 .0 .1)
 
 capacity-requires : tie.Need-capacity-requires
 capacity-requires c κs = search needs
@@ -42,29 +51,19 @@ indices-of-arg-requires : tie.Need-indices-of-arg-requires
 indices-of-arg-requires c κs =
     let s = c .before .before .before .before .before .before .before .before .before .before .before .before .before .before .before .before .before .before in
     let a = s .args in
-    let ok = s .pre .0 in
-    let st = s .pre .1 .0 in
-    let eq = s .pre .1 .1 .1 .0 .0 in
-    let em = s .pre .1 .1 .1 .0 .1 in
-    let kind = s .pre .1 .1 .1 .1 .0 in
-    let half = s .pre .1 .1 .1 .1 .1 in
-    let cnt = read-count (a .code .now) (a .starts .now) (a .settings) (a .index .now) (a .w) st ok (a .a) kind half (a .q) (a .m) eq em in
-    let r = c .before .before .before .before .before .before .before .before .before in
-    let list = r .read-choices .last .1 .1 .1 .0 in
-    let tags = r .read-choices .last .1 .1 .1 .1 .0 in
-    let el = read-offs (a .code .now) (a .starts .now) (a .settings) (a .index .now) (a .w) st ok (a .a) kind half (a .q) (a .m) eq em list (r .read-choices .ensures .0) in
-    let et = read-tags (a .code .now) (a .starts .now) (a .settings) (a .index .now) (a .w) st ok (a .a) kind half (a .q) (a .m) eq em tags (r .read-choices .ensures .1) in
-    let k = c .before .before .before in
+    let line = s .pre .1 .1 .1 .0 in
+    let r = c .before .before .before .before .before .before .before .before .before .read-choices in
+    let list = r .last .1 .1 .1 .0 in
+    let k = c .before .before .before .capacity .ensures in
     let ll : length list ≡ length (a .list .now) = search needs in
-    let lt : length tags ≡ length (a .tags .now) = search needs in
-    let ra = range-arg (a .code .now) (a .starts .now) (a .settings) [] (a .index .now) (a .w) st ok (a .a) kind half in
-    let sm = small (a .code .now) (a .starts .now) (a .settings) [] (a .index .now) (a .w) st ok in
-    let bc = below-count (a .code .now) (a .starts .now) (a .settings) [] (a .index .now) (a .w) st ok (a .a) kind half in
-    let ml = s .pre .1 .1 .0 .0 in
-    let mt = s .pre .1 .1 .0 .1 in
-    (ok, (all-known (a .code .now) (a .starts .now) (a .settings) (a .index .now) (a .w) st ok (a .a) kind half list el,
-    ((omega (arith, ll, ml, cnt .2), omega (arith, ll, lt, ml, mt)),
-    ((ra .0, ra .1, sm .3, sm .2), (bc, omega (arith, st .fits, k .capacity .ensures .0), k .capacity .ensures .1 .0, k .capacity .ensures .1 .1)))))
+    let lt : length (r .last .1 .1 .1 .1 .0) ≡ length (a .tags .now) = search needs in
+    let x = range-arg (due s) in
+    let n = small (due s .ready) in
+    let few = read-count (due s) (a .q) (a .m) (line .0) (line .1) .2 in
+    let lens = s .pre .1 .1 .0 in
+    (s .pre .0, (all-known (due s) list (read-offs (due s) (a .q) (a .m) (line .0) (line .1) list (r .ensures .0)),
+    ((omega (arith, ll, lens .0, few), omega (arith, ll, lt, lens .0, lens .1)),
+    ((x .0, x .1, n .3, n .2), (below-count (due s), omega (arith, s .pre .1 .0 .fits, k .0), k .1 .0, k .1 .1)))))
 
 enum-known-x : tie.Need-enum-known-x
 enum-known-x c = search needs
@@ -86,30 +85,8 @@ same-length-3 c = search needs
 
 returns : tie.Need-returns
 returns c =
-    let s = c .before .before .before .before .before .before .before .before .before .before .before .before .before .before .before .before .before .before .before .before .before .before .before .before in
-    let a = s .args in
-    let ok = s .pre .0 in
-    let st = s .pre .1 .0 in
-    let eq = s .pre .1 .1 .1 .0 .0 in
-    let em = s .pre .1 .1 .1 .0 .1 in
-    let kind = s .pre .1 .1 .1 .1 .0 in
-    let half = s .pre .1 .1 .1 .1 .1 in
-    let cnt = read-count (a .code .now) (a .starts .now) (a .settings) (a .index .now) (a .w) st ok (a .a) kind half (a .q) (a .m) eq em in
-    let r = c .before .before .before .before .before .before .before .before .before .before .before .before .before .before .before in
-    let list = r .read-choices .last .1 .1 .1 .0 in
-    let tags = r .read-choices .last .1 .1 .1 .1 .0 in
-    let el = read-offs (a .code .now) (a .starts .now) (a .settings) (a .index .now) (a .w) st ok (a .a) kind half (a .q) (a .m) eq em list (r .read-choices .ensures .0) in
-    let et = read-tags (a .code .now) (a .starts .now) (a .settings) (a .index .now) (a .w) st ok (a .a) kind half (a .q) (a .m) eq em tags (r .read-choices .ensures .1) in
-    let d = c .before .before .before .before .before in
-    let b′ = d .indices-of-arg .last .1 .1 .1 .0 in
-    let byte = c .before .before .before .before .before .before .before .before .before .before .before .before .before .before .before .before .before .before .before .before .before .slice-known .given in
-    let byte′ = c .before .before .before .slice-known6 .given in
-    let len : length b′ ≡ length (a .index .now) = search needs in
-    let g = grows (a .code .now) (a .starts .now) (a .settings) (a .index .now) (a .w) st ok (a .a) kind half list tags el et b′
-        (λ i. omega (arith, byte i)) (λ i. omega (arith, byte′ i)) len (s .pre .1 .1 .0 .2) (c .before .before .before .before .before .before .before .before .before .capacity .result) (c .before .before .before .before .before .before .before .before .before .capacity .ensures .0)
-        (d .indices-of-arg .result) (d .indices-of-arg .ensures .0) (d .indices-of-arg .ensures .1) in
-    let go = rw (c .before .enum-told .given .1) at g in
-    subst (WentBound (a .code .now) (a .starts .now) (a .settings) (a .index .now) (a .w) (a .a) b′) (sym (c .unstored-from .ensures)) go
+    let go = rw (c .before .enum-told .given .1) at (grown (c .before .before .before)) in
+    go (c .unstored-from .result) (c .unstored-from .ensures)
 
 expanded-at-requires : tie.Need-expanded-at-requires
 expanded-at-requires c κs = search needs
@@ -125,30 +102,8 @@ same-length-6 c = search needs
 
 returns-2 : tie.Need-returns-2
 returns-2 c =
-    let s = c .before .before .before .before .before .before .before .before .before .before .before .before .before .before .before .before .before .before .before .before .before .before .before .before .before in
-    let a = s .args in
-    let ok = s .pre .0 in
-    let st = s .pre .1 .0 in
-    let eq = s .pre .1 .1 .1 .0 .0 in
-    let em = s .pre .1 .1 .1 .0 .1 in
-    let kind = s .pre .1 .1 .1 .1 .0 in
-    let half = s .pre .1 .1 .1 .1 .1 in
-    let cnt = read-count (a .code .now) (a .starts .now) (a .settings) (a .index .now) (a .w) st ok (a .a) kind half (a .q) (a .m) eq em in
-    let r = c .before .before .before .before .before .before .before .before .before .before .before .before .before .before .before .before in
-    let list = r .read-choices .last .1 .1 .1 .0 in
-    let tags = r .read-choices .last .1 .1 .1 .1 .0 in
-    let el = read-offs (a .code .now) (a .starts .now) (a .settings) (a .index .now) (a .w) st ok (a .a) kind half (a .q) (a .m) eq em list (r .read-choices .ensures .0) in
-    let et = read-tags (a .code .now) (a .starts .now) (a .settings) (a .index .now) (a .w) st ok (a .a) kind half (a .q) (a .m) eq em tags (r .read-choices .ensures .1) in
-    let d = c .before .before .before .before .before .before in
-    let b′ = d .indices-of-arg .last .1 .1 .1 .0 in
-    let byte = c .before .before .before .before .before .before .before .before .before .before .before .before .before .before .before .before .before .before .before .before .before .before .slice-known .given in
-    let byte′ = c .before .before .before .before .slice-known6 .given in
-    let len : length b′ ≡ length (a .index .now) = search needs in
-    let g = grows (a .code .now) (a .starts .now) (a .settings) (a .index .now) (a .w) st ok (a .a) kind half list tags el et b′
-        (λ i. omega (arith, byte i)) (λ i. omega (arith, byte′ i)) len (s .pre .1 .1 .0 .2) (c .before .before .before .before .before .before .before .before .before .before .capacity .result) (c .before .before .before .before .before .before .before .before .before .before .capacity .ensures .0)
-        (d .indices-of-arg .result) (d .indices-of-arg .ensures .0) (d .indices-of-arg .ensures .1) in
-    let go = rw (c .before .before .x .given .1) at g in
-    subst (WentBound (a .code .now) (a .starts .now) (a .settings) (a .index .now) (a .w) (a .a) b′) (sym (c .expanded-at .ensures)) go
+    let go = rw (c .before .before .x .given .1) at (grown (c .before .before .before .before)) in
+    go (c .expanded-at .result) (c .expanded-at .ensures)
 
 pub store-line-spec : {M : Type 1} → statement M
 store-line-spec =

@@ -1,22 +1,15 @@
-use mathlib.Core.Path.{_≡_, refl, _∙_, sym, ap, subst}
+use mathlib.Core.Path.{_≡_, sym, ap, _∙_}
 use mathlib.Core.Bool.{true, false}
-use mathlib.Core.List.{[]}
-use Prim.Native.Nat.{ℕ, _+_, _-_, _≤_, _<_}
 use native.Mathlib.Omega.{arith}
-use lib.ListN.{length, take, getD}
-use lib.Seq.{length-take-le}
-use Rattle.records.specs.Records.{recordsOf, none}
-use Rattle.indexing_iter.specs.Keys.{isOpen}
-use Rattle.indexing_scan.specs.Calls.{callOf}
+use lib.ListN.{length}
 use Rattle.indexing_scan.specs.Places.{isTable}
 use Rattle.indexing_scan.proofs.CallLaws.{call-records}
-use Rattle.indexing_walk.specs.Walking.{Went, Turns}
-use Rattle.indexing_walk.proofs.ReadyLaws.{small, third-kind, table-range, open-at, dead-at, switch-at}
-use Rattle.indexing_walk.proofs.LineLaws.{place-in, arity-32}
+use Rattle.indexing_walk.proofs.StandLaws.{Ready}
+use Rattle.indexing_walk.proofs.TurnLaws.{AtTable, turn-open}
+use Rattle.indexing_walk.proofs.ReadyLaws.{small, table-range, to-pass}
+use Rattle.indexing_walk.proofs.LineLaws.{place-in}
 use Rattle.indexing_walk.proofs.NarrowLaws.{end-room, turn-end}
-use Rattle.indexing_walk.proofs.ExpandLaws.{read-count}
 use borrow.Author.Tests.{not-true, not-false}
-use Rattle.indexing_walk.specs.declared.Ended.{Ended}
 use borrow.Author.Needs.{needs}
 use Rattle.indexing_walk.proofs.turns.turn.Statement.{statement}
 use Rattle.indexing_walk.proofs.turns.turn.Tie as tie
@@ -30,16 +23,27 @@ use Rattle.indexing_walk.proofs.turns.end_line.Reads as end-line-reads
 use Rattle.indexing_walk.proofs.turns.pass_table.Reads as pass-table-reads
 use Rattle.indexing_walk.proofs.turns.turn_bound.Reads as turn-bound-reads
 
+-- the walk stands in the buffer, in checked code
+ready : (s : tie.Start) → Ready (s .args .code .now) (s .args .starts .now) (s .args .settings) (s .args .index .now) (s .args .w)
+ready s = record { checked = s .pre .0; stands = s .pre .1 .1 .0 }
+
+-- the record at its place is no table's
+no-table : (c : tie.Then1) → isTable (c .before .before .record-in .result .kind) ≡ false
+no-table c = sym (c .before .is-table .ensures) ∙ not-true (c .before .is-table .result) (c .if1 .taken)
+
+-- it is a table's
+is-one : (c : tie.Else1) → isTable (c .before .before .record-in .result .kind) ≡ true
+is-one c = sym (c .before .is-table .ensures) ∙ not-false (c .before .is-table .result) (c .if1 .left)
+
+table : (c : tie.Else1)
+    → let a = c .before .before .before .before .before .before .before .before .before .before .args in
+      AtTable (a .code .now) (a .starts .now) (a .settings) (a .index .now) (a .w) (c .before .before .record-in .result .half)
+table c =
+    let is = c .before .before .record-in .ensures in
+    record { ready = ready (c .before .before .before .before .before .before .before .before .before .before); half = ap (λ x. x .half) is; table = ap (λ x. isTable (x .kind)) (sym is) ∙ is-one c }
+
 record-in-requires : tie.Need-record-in-requires
-record-in-requires c κs =
-    let s = c .before .before .before .before .before .before .before in
-    let a = s .args in
-    let ok = s .pre .0 in
-    let st = s .pre .1 .1 .0 in
-    let lens = s .pre .1 .1 .1 in
-    let sm = small (a .code .now) (a .starts .now) (a .settings) (a .call .now) (a .index .now) (a .w) st ok in
-    let pl = place-in (a .code .now) (a .starts .now) (a .settings) (a .call .now) (a .index .now) (a .w) st ok in
-    pl .1
+record-in-requires c κs = place-in (ready (c .before .before .before .before .before .before .before)) .1
 
 is-table-requires : tie.Need-is-table-requires
 is-table-requires c κs = search needs
@@ -47,17 +51,9 @@ is-table-requires c κs = search needs
 end-line-requires : tie.Need-end-line-requires
 end-line-requires c κs =
     let s = c .before .before .before .before .before .before .before .before .before .before .before .before in
-    let a = s .args in
-    let ok = s .pre .0 in
-    let st = s .pre .1 .1 .0 in
-    let lens = s .pre .1 .1 .1 in
-    let sm = small (a .code .now) (a .starts .now) (a .settings) (a .call .now) (a .index .now) (a .w) st ok in
-    let pl = place-in (a .code .now) (a .starts .now) (a .settings) (a .call .now) (a .index .now) (a .w) st ok in
-    let d = c .before .before .before .before in
-    let r = d .record-in .result in
-    let is = d .record-in .ensures in
-    let kt : isTable (r .kind) ≡ false = sym (c .before .before .before .is-table .ensures) ∙ not-true (c .before .before .before .is-table .result) (c .before .before .if1 .taken) in
-    ((pl .0, pl .1, sm .0), end-room (a .code .now) (a .starts .now) (a .settings) (a .call .now) (a .index .now) (a .w) st ok r is kt (length (a .list .now)) (lens .0) .0)
+    let r = ready s in
+    let d = c .before .before .before .before .record-in in
+    ((place-in r .0, place-in r .1, small r .0), end-room r (d .result) (d .ensures) (no-table (c .before .before)) (length (s .args .list .now)) (s .pre .1 .1 .1 .0))
 
 same-length : tie.Need-same-length
 same-length c = search needs
@@ -68,19 +64,9 @@ same-length-2 c = search needs
 returns : tie.Need-returns
 returns c =
     let s = c .before .before .before .before .before .before .before .before .before .before .before .before .before .before .before in
-    let a = s .args in
-    let ok = s .pre .0 in
-    let st = s .pre .1 .1 .0 in
-    let lens = s .pre .1 .1 .1 in
-    let sm = small (a .code .now) (a .starts .now) (a .settings) (a .call .now) (a .index .now) (a .w) st ok in
-    let pl = place-in (a .code .now) (a .starts .now) (a .settings) (a .call .now) (a .index .now) (a .w) st ok in
-    let d = c .before .before .before .before .before .before .before in
-    let r = d .record-in .result in
-    let is = d .record-in .ensures in
-    let kt : isTable (r .kind) ≡ false = sym (c .before .before .before .before .before .before .is-table .ensures) ∙ not-true (c .before .before .before .before .before .before .is-table .result) (c .before .before .before .before .before .if1 .taken) in
-    let d = c .before .before in
-    ((λ W x. turn-end (a .code .now) (a .starts .now) (a .settings) (a .call .now) (a .index .now) (a .w) st ok r is kt (d .end-line .last .1 .1 .0) (a .list .now) (d .end-line .result) (d .end-line .ensures .0) (d .end-line .ensures .1) W x), refl, ap (λ (y : Ended). y .records) (d .end-line .ensures .0),
-    omega (arith, ap (λ (y : Ended). y .count) (d .end-line .ensures .0), end-room (a .code .now) (a .starts .now) (a .settings) (a .call .now) (a .index .now) (a .w) st ok r is kt (length (a .list .now)) (lens .0) .1))
+    let d = c .before .before .before .before .before .before .before .record-in in
+    let e = c .before .before .end-line in
+    turn-end (ready s) (d .result) (d .ensures) (no-table (c .before .before .before .before .before)) (s .args .call .now) (e .last .1 .1 .0) (s .args .list .now) (e .result) (e .ensures .0) (e .ensures .1)
 
 cast-a : tie.Need-cast-a
 cast-a c = search needs
@@ -88,81 +74,31 @@ cast-a c = search needs
 call-key-requires : tie.Need-call-key-requires
 call-key-requires c κs =
     let s = c .before .before .before .before .before .before .before .before .before .before .before in
-    let a = s .args in
-    let ok = s .pre .0 in
-    let st = s .pre .1 .1 .0 in
-    let lens = s .pre .1 .1 .1 in
-    let sm = small (a .code .now) (a .starts .now) (a .settings) (a .call .now) (a .index .now) (a .w) st ok in
-    let pl = place-in (a .code .now) (a .starts .now) (a .settings) (a .call .now) (a .index .now) (a .w) st ok in
-    let d = c .before .before .before in
-    let r = d .record-in .result in
-    let is = d .record-in .ensures in
-    let kt : isTable (r .kind) ≡ true = sym (c .before .before .is-table .ensures) ∙ not-false (c .before .before .is-table .result) (c .before .if1 .left) in
-    let table : isTable (getD (take (a .w .count) (recordsOf (a .index .now))) (a .w .at) none .kind) ≡ true = ap (λ x. isTable (x .kind)) (sym is) ∙ kt in
-    let half : r .half ≡ getD (take (a .w .count) (recordsOf (a .index .now))) (a .w .at) none .half = ap (λ x. x .half) is in
-    let rg = table-range (a .code .now) (a .starts .now) (a .settings) (a .call .now) (a .index .now) (a .w) st ok (r .half) half table in
-    (rg .0, omega (arith, rg .1, call-records (a .settings .arity) (a .call .now) (s .pre .1 .0)))
+    let r = table-range (table (c .before)) in
+    (r .0, omega (arith, r .1, call-records (s .args .settings .arity) (s .args .call .now) (s .pre .1 .0)))
 
 is-open-requires : tie.Need-is-open-requires
 is-open-requires c κs = search needs
 
 pass-table-requires : tie.Need-pass-table-requires
-pass-table-requires c κs =
-    let s = c .before .before .before .before .before .before .before .before .before .before .before .before .before .before .before in
-    let a = s .args in
-    let ok = s .pre .0 in
-    let st = s .pre .1 .1 .0 in
-    let lens = s .pre .1 .1 .1 in
-    let sm = small (a .code .now) (a .starts .now) (a .settings) (a .call .now) (a .index .now) (a .w) st ok in
-    let pl = place-in (a .code .now) (a .starts .now) (a .settings) (a .call .now) (a .index .now) (a .w) st ok in
-    let d = c .before .before .before .before .before .before .before in
-    let r = d .record-in .result in
-    let is = d .record-in .ensures in
-    let kt : isTable (r .kind) ≡ true = sym (c .before .before .before .before .before .before .is-table .ensures) ∙ not-false (c .before .before .before .before .before .before .is-table .result) (c .before .before .before .before .before .if1 .left) in
-    let table : isTable (getD (take (a .w .count) (recordsOf (a .index .now))) (a .w .at) none .kind) ≡ true = ap (λ x. isTable (x .kind)) (sym is) ∙ kt in
-    let half : r .half ≡ getD (take (a .w .count) (recordsOf (a .index .now))) (a .w .at) none .half = ap (λ x. x .half) is in
-    let rg = table-range (a .code .now) (a .starts .now) (a .settings) (a .call .now) (a .index .now) (a .w) st ok (r .half) half table in
-    (rg .3, pl .1, sm .0, omega (arith, rg .2))
+pass-table-requires c κs = to-pass (table (c .before .before .before .before .before))
 
 same-length-3 : tie.Need-same-length-3
 same-length-3 c = search needs
 
 returns-2 : tie.Need-returns-2
 returns-2 c =
-    let s = c .before .before .before .before .before .before .before .before .before .before .before .before .before .before .before .before in
-    let a = s .args in
-    let ok = s .pre .0 in
-    let st = s .pre .1 .1 .0 in
-    let lens = s .pre .1 .1 .1 in
-    let sm = small (a .code .now) (a .starts .now) (a .settings) (a .call .now) (a .index .now) (a .w) st ok in
-    let pl = place-in (a .code .now) (a .starts .now) (a .settings) (a .call .now) (a .index .now) (a .w) st ok in
-    let d = c .before .before .before .before .before .before .before .before in
-    let r = d .record-in .result in
-    let is = d .record-in .ensures in
-    let kt : isTable (r .kind) ≡ true = sym (c .before .before .before .before .before .before .before .is-table .ensures) ∙ not-false (c .before .before .before .before .before .before .before .is-table .result) (c .before .before .before .before .before .before .if1 .left) in
-    let table : isTable (getD (take (a .w .count) (recordsOf (a .index .now))) (a .w .at) none .kind) ≡ true = ap (λ x. isTable (x .kind)) (sym is) ∙ kt in
-    let half : r .half ≡ getD (take (a .w .count) (recordsOf (a .index .now))) (a .w .at) none .half = ap (λ x. x .half) is in
-    let rg = table-range (a .code .now) (a .starts .now) (a .settings) (a .call .now) (a .index .now) (a .w) st ok (r .half) half table in
-    subst (Went (a .code .now) (a .starts .now) (a .settings) (a .call .now) (a .index .now) (a .w) (a .index .now)) (sym (c .pass-table .ensures))
-    (open-at (a .code .now) (a .starts .now) (a .settings) (a .call .now) (a .index .now) (a .w) st ok (r .half) half table (c .before .before .before .before .call-key .result) (c .before .before .before .before .call-key .ensures) (sym (c .before .before .before .is-open .ensures) ∙ c .before .before .if2 .taken))
+    let k = c .before .before .before .before .call-key in
+    turn-open (table (c .before .before .before .before .before .before)) (c .before .before .before .before .before .before .before .before .before .before .before .before .before .before .before .before .args .call .now) (k .result) (k .ensures) (sym (c .before .before .before .is-open .ensures) ∙ c .before .before .if2 .taken)
+    (c .pass-table .result) (c .pass-table .ensures)
 
 turn-bound-requires : tie.Need-turn-bound-requires
 turn-bound-requires c κs =
     let s = c .before .before .before .before .before .before .before .before .before .before .before .before .before .before .before .before .before in
-    let a = s .args in
-    let ok = s .pre .0 in
-    let st = s .pre .1 .1 .0 in
-    let lens = s .pre .1 .1 .1 in
-    let sm = small (a .code .now) (a .starts .now) (a .settings) (a .call .now) (a .index .now) (a .w) st ok in
-    let pl = place-in (a .code .now) (a .starts .now) (a .settings) (a .call .now) (a .index .now) (a .w) st ok in
-    let d = c .before .before .before .before .before .before .before .before .before in
-    let r = d .record-in .result in
-    let is = d .record-in .ensures in
-    let kt : isTable (r .kind) ≡ true = sym (c .before .before .before .before .before .before .before .before .is-table .ensures) ∙ not-false (c .before .before .before .before .before .before .before .before .is-table .result) (c .before .before .before .before .before .before .before .if1 .left) in
-    let table : isTable (getD (take (a .w .count) (recordsOf (a .index .now))) (a .w .at) none .kind) ≡ true = ap (λ x. isTable (x .kind)) (sym is) ∙ kt in
-    let half : r .half ≡ getD (take (a .w .count) (recordsOf (a .index .now))) (a .w .at) none .half = ap (λ x. x .half) is in
-    let rg = table-range (a .code .now) (a .starts .now) (a .settings) (a .call .now) (a .index .now) (a .w) st ok (r .half) half table in
-    (ok, (s .pre .1 .0, (st, (lens, ((ap (λ x. x .kind) is, half), (kt, c .before .before .before .before .before .call-key .ensures, sym (c .before .before .before .before .is-open .ensures) ∙ c .before .before .before .if2 .left))))))
+    let e = c .before .before .before .before .before .before .before in
+    let t = table e in
+    (t .ready .checked, (s .pre .1 .0, (t .ready .stands, (s .pre .1 .1 .1, ((ap (λ x. x .kind) (c .before .before .before .before .before .before .before .before .before .record-in .ensures), t .half),
+    (is-one e, c .before .before .before .before .before .call-key .ensures, sym (c .before .before .before .before .is-open .ensures) ∙ c .before .before .before .if2 .left))))))
 
 same-length-4 : tie.Need-same-length-4
 same-length-4 c = search needs
