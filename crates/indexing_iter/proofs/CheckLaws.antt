@@ -14,12 +14,14 @@ use borrow.Author.Tests.{leb-true, ltb-true, ltb-false, eqb-true, eqb-false, not
 use Rattle.records.specs.declared.Rec.{Rec}
 use Rattle.records.specs.Records.{recordsOf, none}
 use Rattle.records.proofs.Laws.{length-recordsOf}
+use Rattle.indexing_iter.specs.declared.InstructionArg.{InstructionArg}
+use Rattle.indexing_iter.specs.declared.InstructionArg.the-variants.{ArgedHead, ArglessHead, NonHead, Prologue}
 use Rattle.indexing_iter.specs.declared.Checked.{Checked}
 use Rattle.indexing_iter.specs.declared.Checked.the-variants.{Passed, Refused}
-use Rattle.indexing_iter.specs.Classes.{instructionArg}
+use Rattle.indexing_iter.specs.Classes.{argOfClass}
 use Rattle.indexing_iter.specs.Keys.{keyIn, isOpen}
 use Rattle.indexing_iter.specs.Clauses.{endOf, clausesOf, offsetsOf, clauseAt, keyOf, known}
-use Rattle.indexing_iter.specs.Checks.{risingBelow, isBody, hasBody, recordBad, registerStep, checkRecords, orElse, refuse, checkArity, checkChosen, checkSize, checkStarts, checkClauses, openSomewhere, checkKeyed, checkClausesOf, checkCode, checkBuild}
+use Rattle.indexing_iter.specs.Checks.{risingBelow, isBody, hasBody, recordBad, registerBad, registerStep, checkRecords, checkClause, orElse, refuse, checkArity, checkChosen, checkSize, checkStarts, checkClauses, openSomewhere, checkKeyed, checkClausesOf, checkCode, checkBuild}
 use Rattle.indexing_iter.proofs.Parts.{slice-step, slice-done}
 
 pub drop-step : (s : List ℕ) (i : ℕ) → i < length s → drop i s ≡ getD s i 0 ∷ drop (i + 1) s
@@ -44,25 +46,62 @@ rising-last n s i e =
     let none : drop (i + 1) s ≡ [] = drop-of-length-le s past in
     rw (drop-step s i (omega arith), none) refl
 
-pub body-step : (cls : ℕ → ℕ) (rs : List Rec) (i end : ℕ) → i < end → end ≤ length rs
-    → hasBody cls (slice i end rs) ≡ (isBody (instructionArg cls (getD rs i none)) || hasBody cls (slice (i + 1) end rs))
+-- whether the record at i, of a class, is a body record, and whether one after it is
+pub body-step : (cls : ℕ → ℕ) (rs : List Rec) (i end : ℕ) (r : Rec) (class : ℕ) → i < end → end ≤ length rs
+    → r ≡ getD rs i none → class ≡ cls (r .kind) → hasBody cls (slice i end rs) ≡ (isBody (argOfClass class r) || hasBody cls (slice (i + 1) end rs))
 unfolding hasBody
-body-step cls rs i end h k = rw (slice-step rs i end h k) refl
+body-step cls rs i end r class h k e q = rw (slice-step rs i end h k, q, e) refl
 
 pub body-none : (cls : ℕ → ℕ) (rs : List Rec) (i end : ℕ) → end ≤ i → hasBody cls (slice i end rs) ≡ false
 unfolding hasBody
 body-none cls rs i end h = rw (slice-done rs i end h) refl
 
-pub checked-step : (cls : ℕ → ℕ) (arity : ℕ) (rs : List Rec) (i end last : ℕ) (r : Rec) (bad : Bool) → i < end → end ≤ length rs
-    → r ≡ getD rs i none → bad ≡ recordBad (cls (r .kind)) r
-    → checkRecords cls arity (slice i end rs) last
-    ≡ cond bad (Refused 6) (registerStep (instructionArg cls r) arity last (checkRecords cls arity (slice (i + 1) end rs)))
-unfolding checkRecords
-checked-step cls arity rs i end last r bad h k e q = rw (slice-step rs i end h k, q, e) refl
+-- ---- 5 to 7 of a clause in one pass
 
-pub checked-none : (cls : ℕ → ℕ) (arity : ℕ) (rs : List Rec) (i end last : ℕ) → end ≤ i → checkRecords cls arity (slice i end rs) last ≡ Passed
-unfolding checkRecords
-checked-none cls arity rs i end last h = rw (slice-done rs i end h) refl
+-- the records left of a clause, last the register of its key before them
+pub clauseFrom : (ℕ → ℕ) → ℕ → List Rec → ℕ → Checked
+clauseFrom cls arity rs last = cond (hasBody cls rs) (checkRecords cls arity rs last) (Refused 5)
+
+-- one record, whether its 6 applies, what it says, whether it or a later one is a body record, and the answer of those after it:
+-- where its 6 or 7 applies and no body record is left, it is 5 that comes first
+abbrev pub clauseStep : Bool → InstructionArg → Bool → ℕ → ℕ → (ℕ → Checked) → Checked
+clauseStep true a found arity last rest = cond found (Refused 6) (Refused 5)
+clauseStep false NonHead found arity last rest = Passed
+clauseStep false Prologue found arity last rest = rest last
+clauseStep false ArglessHead found arity last rest = rest last
+clauseStep false (ArgedHead reg key) found arity last rest = cond (registerBad arity last reg) (cond found (Refused 7) (Refused 5)) (rest reg)
+
+inside : (t more : Bool) (x y z : Checked) → cond more (cond t x y) z ≡ cond t (cond more x z) (cond more y z)
+inside true more x y z = refl
+inside false more x y z = refl
+
+one-pass : (bad : Bool) (a : InstructionArg) (more : Bool) (arity last : ℕ) (rest : ℕ → Checked)
+    → cond (isBody a || more) (cond bad (Refused 6) (registerStep a arity last rest)) (Refused 5)
+    ≡ clauseStep bad a (isBody a || more) arity last (λ l. cond more (rest l) (Refused 5))
+one-pass true a more arity last rest = refl
+one-pass false NonHead more arity last rest = refl
+one-pass false Prologue more arity last rest = refl
+one-pass false ArglessHead more arity last rest = refl
+one-pass false (ArgedHead reg key) more arity last rest = inside (registerBad arity last reg) more (Refused 7) (rest reg) (Refused 5)
+
+pub clause-whole : (cls : ℕ → ℕ) (arity : ℕ) (rs : List Rec) → clauseFrom cls arity rs 0 ≡ checkClause cls arity rs
+unfolding clauseFrom checkClause
+clause-whole cls arity rs = refl
+
+pub clause-step : (cls : ℕ → ℕ) (arity : ℕ) (rs : List Rec) (i end last : ℕ) (r : Rec) (class : ℕ) → i < end → end ≤ length rs
+    → r ≡ getD rs i none → class ≡ cls (r .kind)
+    → clauseFrom cls arity (slice i end rs) last
+    ≡ clauseStep (recordBad class r) (argOfClass class r) (hasBody cls (slice i end rs)) arity last (clauseFrom cls arity (slice (i + 1) end rs))
+unfolding clauseFrom hasBody checkRecords
+clause-step cls arity rs i end last r class h k e q =
+    let first : Rec = getD rs i none in
+    let rest : List Rec = slice (i + 1) end rs in
+    rw (slice-step rs i end h k, q, e)
+    (one-pass (recordBad (cls (first .kind)) first) (argOfClass (cls (first .kind)) first) (hasBody cls rest) arity last (checkRecords cls arity rest))
+
+pub clause-none : (cls : ℕ → ℕ) (arity : ℕ) (rs : List Rec) (i end last : ℕ) → end ≤ i → clauseFrom cls arity (slice i end rs) last ≡ Refused 5
+unfolding clauseFrom
+clause-none cls arity rs i end last h = rw (body-none cls rs i end h) refl
 
 -- ---- the starts
 
