@@ -1,7 +1,7 @@
 -- Steps along the starts and the records, and what passed checks tell at each place.
 -- Assumes nothing.
 use Prim.Native.Nat.{ℕ, zero, suc, _+_, _*_, _/_, _%_, _<_, _≤_}
-use mathlib.Core.Path.{_≡_, refl, ap}
+use mathlib.Core.Path.{_≡_, refl}
 use mathlib.Core.Bool.{Bool, true, false, not, cond, _&&_, _||_}
 use mathlib.Core.List.{List, [], _∷_}
 use native.Mathlib.Nat.{le-of-suc-le-suc, not-suc-le-zero}
@@ -10,7 +10,7 @@ use native.Mathlib.Omega.{arith}
 use lib.Dec.{leb, eqb, ltb}
 use lib.ListN.{length, getD, drop, drop-of-length-le}
 use lib.Seq.{drop-cons, slice}
-use borrow.Author.Tests.{leb-true, ltb-true, ltb-false, eqb-true, eqb-false, not-false, eq-eqb, ne-eqb}
+use borrow.Author.Tests.{leb-true, ltb-true, ltb-false, eqb-true, eqb-false, not-false, eq-eqb}
 use Rattle.records.specs.declared.Rec.{Rec}
 use Rattle.records.specs.Records.{recordsOf, none}
 use Rattle.records.proofs.Laws.{length-recordsOf}
@@ -216,27 +216,6 @@ rising-from n k (x ∷ s) e h = (omega arith, rising-from n (suc x) s (rising-ta
 
 pub offsets-rising : (n : ℕ) (s : List ℕ) → risingBelow n s ≡ true → Rising 1 (offsetsOf s)
 offsets-rising n s e = rising-from n 0 s e (omega arith)
-
-rising-first : (n x : ℕ) (s : List ℕ) (j : ℕ) → risingBelow n (x ∷ s) ≡ true → j < length s → x < getD s j 0
-rising-first n x [] j e h = absurd (not-suc-le-zero h)
-rising-first n x (y ∷ s) zero e h = rising-head n x (y ∷ s) e
-rising-first n x (y ∷ s) (suc j) e h =
-    omega (arith, rising-head n x (y ∷ s) e, rising-first n y s j (rising-tail n x (y ∷ s) e) (le-of-suc-le-suc h))
-
-pub length-clauses : (rs : List Rec) (s : List ℕ) → length (clausesOf rs s) ≡ length s
-unfolding clausesOf
-length-clauses rs [] = refl
-length-clauses rs (x ∷ s) = ap suc (length-clauses rs s)
-
--- the clause at the offset of start i is clause i
-pub clause-place : (n : ℕ) (rs : List Rec) (s : List ℕ) (i : ℕ) → risingBelow n s ≡ true → i < length s
-    → clauseAt rs s (suc (getD s i 0)) ≡ getD (clausesOf rs s) i []
-unfolding clauseAt clausesOf
-clause-place n rs [] i e h = absurd (not-suc-le-zero h)
-clause-place n rs (x ∷ s) zero e h = rw (eq-eqb (suc x) (suc x) refl) refl
-clause-place n rs (x ∷ s) (suc i) e h =
-    let below : x < getD s i 0 = rising-first n x s i e (le-of-suc-le-suc h) in
-    rw (ne-eqb (suc x) (suc (getD s i 0)) (λ q. omega arith)) (clause-place n rs s i (rising-tail n x s e) (le-of-suc-le-suc h))
 
 pub getD-offsets : (s : List ℕ) (i : ℕ) → i < length s → getD (offsetsOf s) i 0 ≡ suc (getD s i 0)
 getD-offsets [] i h = absurd (not-suc-le-zero h)
