@@ -1,7 +1,7 @@
 -- Steps along the starts and the records, and what passed checks tell at each place.
 -- Assumes nothing.
 use Prim.Native.Nat.{ℕ, zero, suc, _+_, _*_, _/_, _%_, _<_, _≤_}
-use mathlib.Core.Path.{_≡_, refl, ap}
+use mathlib.Core.Path.{_≡_, refl}
 use mathlib.Core.Bool.{Bool, true, false, not, cond, _&&_, _||_}
 use mathlib.Core.List.{List, [], _∷_}
 use native.Mathlib.Nat.{le-of-suc-le-suc, not-suc-le-zero}
@@ -10,16 +10,18 @@ use native.Mathlib.Omega.{arith}
 use lib.Dec.{leb, eqb, ltb}
 use lib.ListN.{length, getD, drop, drop-of-length-le}
 use lib.Seq.{drop-cons, slice}
-use borrow.Author.Tests.{leb-true, ltb-true, ltb-false, eqb-true, eqb-false, not-false, eq-eqb, ne-eqb}
+use borrow.Author.Tests.{leb-true, ltb-true, ltb-false, eqb-true, eqb-false, not-false, eq-eqb}
 use Rattle.records.specs.declared.Rec.{Rec}
 use Rattle.records.specs.Records.{recordsOf, none}
 use Rattle.records.proofs.Laws.{length-recordsOf}
+use Rattle.indexing_iter.specs.declared.InstructionArg.{InstructionArg}
+use Rattle.indexing_iter.specs.declared.InstructionArg.the-variants.{ArgedHead, ArglessHead, NonHead, Prologue}
 use Rattle.indexing_iter.specs.declared.Checked.{Checked}
 use Rattle.indexing_iter.specs.declared.Checked.the-variants.{Passed, Refused}
-use Rattle.indexing_iter.specs.Classes.{instructionArg}
+use Rattle.indexing_iter.specs.Classes.{argOfClass}
 use Rattle.indexing_iter.specs.Keys.{keyIn, isOpen}
 use Rattle.indexing_iter.specs.Clauses.{endOf, clausesOf, offsetsOf, clauseAt, keyOf, known}
-use Rattle.indexing_iter.specs.Checks.{risingBelow, isBody, hasBody, recordBad, registerStep, checkRecords, orElse, refuse, checkArity, checkChosen, checkSize, checkStarts, checkClauses, openSomewhere, checkKeyed, checkClausesOf, checkCode, checkBuild}
+use Rattle.indexing_iter.specs.Checks.{risingBelow, isBody, hasBody, recordBad, registerBad, registerStep, checkRecords, checkClause, orElse, refuse, checkArity, checkChosen, checkSize, checkStarts, checkClauses, openSomewhere, checkKeyed, checkClausesOf, checkCode, checkBuild}
 use Rattle.indexing_iter.proofs.Parts.{slice-step, slice-done}
 
 pub drop-step : (s : List ℕ) (i : ℕ) → i < length s → drop i s ≡ getD s i 0 ∷ drop (i + 1) s
@@ -44,25 +46,62 @@ rising-last n s i e =
     let none : drop (i + 1) s ≡ [] = drop-of-length-le s past in
     rw (drop-step s i (omega arith), none) refl
 
-pub body-step : (cls : ℕ → ℕ) (rs : List Rec) (i end : ℕ) → i < end → end ≤ length rs
-    → hasBody cls (slice i end rs) ≡ (isBody (instructionArg cls (getD rs i none)) || hasBody cls (slice (i + 1) end rs))
+-- whether the record at i, of a class, is a body record, and whether one after it is
+pub body-step : (cls : ℕ → ℕ) (rs : List Rec) (i end : ℕ) (r : Rec) (class : ℕ) → i < end → end ≤ length rs
+    → r ≡ getD rs i none → class ≡ cls (r .kind) → hasBody cls (slice i end rs) ≡ (isBody (argOfClass class r) || hasBody cls (slice (i + 1) end rs))
 unfolding hasBody
-body-step cls rs i end h k = rw (slice-step rs i end h k) refl
+body-step cls rs i end r class h k e q = rw (slice-step rs i end h k, q, e) refl
 
 pub body-none : (cls : ℕ → ℕ) (rs : List Rec) (i end : ℕ) → end ≤ i → hasBody cls (slice i end rs) ≡ false
 unfolding hasBody
 body-none cls rs i end h = rw (slice-done rs i end h) refl
 
-pub checked-step : (cls : ℕ → ℕ) (arity : ℕ) (rs : List Rec) (i end last : ℕ) (r : Rec) (bad : Bool) → i < end → end ≤ length rs
-    → r ≡ getD rs i none → bad ≡ recordBad (cls (r .kind)) r
-    → checkRecords cls arity (slice i end rs) last
-    ≡ cond bad (Refused 6) (registerStep (instructionArg cls r) arity last (checkRecords cls arity (slice (i + 1) end rs)))
-unfolding checkRecords
-checked-step cls arity rs i end last r bad h k e q = rw (slice-step rs i end h k, q, e) refl
+-- ---- 5 to 7 of a clause in one pass
 
-pub checked-none : (cls : ℕ → ℕ) (arity : ℕ) (rs : List Rec) (i end last : ℕ) → end ≤ i → checkRecords cls arity (slice i end rs) last ≡ Passed
-unfolding checkRecords
-checked-none cls arity rs i end last h = rw (slice-done rs i end h) refl
+-- the records left of a clause, last the register of its key before them
+pub clauseFrom : (ℕ → ℕ) → ℕ → List Rec → ℕ → Checked
+clauseFrom cls arity rs last = cond (hasBody cls rs) (checkRecords cls arity rs last) (Refused 5)
+
+-- one record, whether its 6 applies, what it says, whether it or a later one is a body record, and the answer of those after it:
+-- where its 6 or 7 applies and no body record is left, it is 5 that comes first
+abbrev pub clauseStep : Bool → InstructionArg → Bool → ℕ → ℕ → (ℕ → Checked) → Checked
+clauseStep true a found arity last rest = cond found (Refused 6) (Refused 5)
+clauseStep false NonHead found arity last rest = Passed
+clauseStep false Prologue found arity last rest = rest last
+clauseStep false ArglessHead found arity last rest = rest last
+clauseStep false (ArgedHead reg key) found arity last rest = cond (registerBad arity last reg) (cond found (Refused 7) (Refused 5)) (rest reg)
+
+inside : (t more : Bool) (x y z : Checked) → cond more (cond t x y) z ≡ cond t (cond more x z) (cond more y z)
+inside true more x y z = refl
+inside false more x y z = refl
+
+one-pass : (bad : Bool) (a : InstructionArg) (more : Bool) (arity last : ℕ) (rest : ℕ → Checked)
+    → cond (isBody a || more) (cond bad (Refused 6) (registerStep a arity last rest)) (Refused 5)
+    ≡ clauseStep bad a (isBody a || more) arity last (λ l. cond more (rest l) (Refused 5))
+one-pass true a more arity last rest = refl
+one-pass false NonHead more arity last rest = refl
+one-pass false Prologue more arity last rest = refl
+one-pass false ArglessHead more arity last rest = refl
+one-pass false (ArgedHead reg key) more arity last rest = inside (registerBad arity last reg) more (Refused 7) (rest reg) (Refused 5)
+
+pub clause-whole : (cls : ℕ → ℕ) (arity : ℕ) (rs : List Rec) → clauseFrom cls arity rs 0 ≡ checkClause cls arity rs
+unfolding clauseFrom checkClause
+clause-whole cls arity rs = refl
+
+pub clause-step : (cls : ℕ → ℕ) (arity : ℕ) (rs : List Rec) (i end last : ℕ) (r : Rec) (class : ℕ) → i < end → end ≤ length rs
+    → r ≡ getD rs i none → class ≡ cls (r .kind)
+    → clauseFrom cls arity (slice i end rs) last
+    ≡ clauseStep (recordBad class r) (argOfClass class r) (hasBody cls (slice i end rs)) arity last (clauseFrom cls arity (slice (i + 1) end rs))
+unfolding clauseFrom hasBody checkRecords
+clause-step cls arity rs i end last r class h k e q =
+    let first : Rec = getD rs i none in
+    let rest : List Rec = slice (i + 1) end rs in
+    rw (slice-step rs i end h k, q, e)
+    (one-pass (recordBad (cls (first .kind)) first) (argOfClass (cls (first .kind)) first) (hasBody cls rest) arity last (checkRecords cls arity rest))
+
+pub clause-none : (cls : ℕ → ℕ) (arity : ℕ) (rs : List Rec) (i end last : ℕ) → end ≤ i → clauseFrom cls arity (slice i end rs) last ≡ Refused 5
+unfolding clauseFrom
+clause-none cls arity rs i end last h = rw (body-none cls rs i end h) refl
 
 -- ---- the starts
 
@@ -177,27 +216,6 @@ rising-from n k (x ∷ s) e h = (omega arith, rising-from n (suc x) s (rising-ta
 
 pub offsets-rising : (n : ℕ) (s : List ℕ) → risingBelow n s ≡ true → Rising 1 (offsetsOf s)
 offsets-rising n s e = rising-from n 0 s e (omega arith)
-
-rising-first : (n x : ℕ) (s : List ℕ) (j : ℕ) → risingBelow n (x ∷ s) ≡ true → j < length s → x < getD s j 0
-rising-first n x [] j e h = absurd (not-suc-le-zero h)
-rising-first n x (y ∷ s) zero e h = rising-head n x (y ∷ s) e
-rising-first n x (y ∷ s) (suc j) e h =
-    omega (arith, rising-head n x (y ∷ s) e, rising-first n y s j (rising-tail n x (y ∷ s) e) (le-of-suc-le-suc h))
-
-pub length-clauses : (rs : List Rec) (s : List ℕ) → length (clausesOf rs s) ≡ length s
-unfolding clausesOf
-length-clauses rs [] = refl
-length-clauses rs (x ∷ s) = ap suc (length-clauses rs s)
-
--- the clause at the offset of start i is clause i
-pub clause-place : (n : ℕ) (rs : List Rec) (s : List ℕ) (i : ℕ) → risingBelow n s ≡ true → i < length s
-    → clauseAt rs s (suc (getD s i 0)) ≡ getD (clausesOf rs s) i []
-unfolding clauseAt clausesOf
-clause-place n rs [] i e h = absurd (not-suc-le-zero h)
-clause-place n rs (x ∷ s) zero e h = rw (eq-eqb (suc x) (suc x) refl) refl
-clause-place n rs (x ∷ s) (suc i) e h =
-    let below : x < getD s i 0 = rising-first n x s i e (le-of-suc-le-suc h) in
-    rw (ne-eqb (suc x) (suc (getD s i 0)) (λ q. omega arith)) (clause-place n rs s i (rising-tail n x s e) (le-of-suc-le-suc h))
 
 pub getD-offsets : (s : List ℕ) (i : ℕ) → i < length s → getD (offsetsOf s) i 0 ≡ suc (getD s i 0)
 getD-offsets [] i h = absurd (not-suc-le-zero h)

@@ -1,6 +1,6 @@
 -- Tests, and the laws of equal keys (document 01, section 2).
 -- Assumes nothing.
-use mathlib.Core.Path.{_≡_, refl, sym, ap₂, _∙_, subst}
+use mathlib.Core.Path.{_≡_, refl, sym, ap₂, _∙_}
 use Prim.Native.Nat.{ℕ, _≤_}
 use mathlib.Core.Bool.{Bool, true, false, _&&_, _||_, false≢true}
 use native.Mathlib.Omega.{arith}
@@ -67,9 +67,6 @@ same-sym k l =
     ap₂ _&&_ (eqb-comm (groupOf k) (groupOf l))
     (ap₂ _&&_ (eqb-comm (sortOf k) (sortOf l)) (ap₂ _&&_ (eqb-comm (arityOf k) (arityOf l)) (eqb-comm (bitsOf k) (bitsOf l))))
 
-pub same-trans : (k l m : OptArgIndexKey) → same k l ≡ true → same l m ≡ true → same k m ≡ true
-same-trans k l m e f = subst (λ (x : OptArgIndexKey). same x m ≡ true) (sym (same-eq k l e)) f
-
 -- a literal's sort is 1 to 3
 abbrev pub SortInRange : OptArgIndexKey → Type 0
 SortInRange None = Unit {0}
@@ -84,13 +81,7 @@ KeyInRange (Literal s b) = (1 ≤ s) × (s ≤ 3)
 KeyInRange (Structure n f) = (1 ≤ n) × (n ≤ 255)
 KeyInRange ListKey = Unit {0}
 
-pub sort-in-range : (k : OptArgIndexKey) → KeyInRange k → SortInRange k
-sort-in-range None h = tt
-sort-in-range (Literal s b) h = h
-sort-in-range (Structure n f) h = tt
-sort-in-range ListKey h = tt
-
--- then the group is told by the sort
+-- where sorts are in range the group is told by the sort
 pub same-by-sort : (k l : OptArgIndexKey) → SortInRange k → SortInRange l
     → same k l ≡ (eqb (sortOf k) (sortOf l) && (eqb (arityOf k) (arityOf l) && eqb (bitsOf k) (bitsOf l)))
 same-by-sort None None h i = refl

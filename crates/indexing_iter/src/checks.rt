@@ -3,9 +3,9 @@ use crate::Checked;
 use crate::InstructionArg;
 use records::Rec;
 ghost use mathlib.Core.Path.{_≡_};
-ghost use mathlib.Core.Bool.{true};
+ghost use mathlib.Core.Bool.{true, cond};
 ghost use Prim.Native.Nat.{_+_, _≤_, _<_};
-ghost use lib.ListN.{length, drop};
+ghost use lib.ListN.{length, drop, getD};
 ghost use lib.Seq.{slice};
 ghost use Rattle.records.specs.Records.{recordsOf};
 ghost use Rattle.indexing_iter.specs.Classes.{classOf};
@@ -105,14 +105,15 @@ fn is_body(a: InstructionArg) -> bool
     }
 }
 
-// Whether one of the records from start up to end is a body record.
-fn has_body(code: &[u8], start: usize, end: usize) -> bool
-    requires { ⌜ end ≤ length (recordsOf (now code)) ⌝ }
-    ensures { λ r. ⌜ r ≡ hasBody classOf (slice start end (recordsOf (now (code .entry)))) ⌝ }
+// Whether one of the records from start up to end is a body record, by a table of classes.
+fn has_body(table: &[u8], code: &[u8], start: usize, end: usize) -> bool
+    requires { ⌜ (length (now table) ≡ 256) × (end ≤ length (recordsOf (now code))) ⌝ }
+    ensures { λ r. ⌜ r ≡ hasBody (λ op. getD (now (table .entry)) op 0) (slice start end (recordsOf (now (code .entry)))) ⌝ }
 {
     let mut i = start;
     while i < end {
-        if is_body(crate::extract_index_arg(code, i)) {
+        let r = records::get(code, i);
+        if is_body(crate::arg_of_class(crate::class_in(table, r.kind), r)) {
             return true;
         }
         i += 1;
@@ -172,26 +173,38 @@ fn register_bad(arity: u32, last: u32, reg: u32) -> bool
     reg <= last
 }
 
-// 6 and 7 of the records from start up to end, through the first body record.
-fn check_records(code: &[u8], start: usize, end: usize, arity: u32) -> Checked
-    requires { ⌜ end ≤ length (recordsOf (now code)) ⌝ }
-    ensures { λ r. ⌜ r ≡ checkRecords classOf arity (slice start end (recordsOf (now (code .entry)))) 0 ⌝ }
+// 6 or 7, met at a record: 5 comes first where neither that record nor a later one of the clause is a body record.
+fn refused_from(table: &[u8], code: &[u8], i: usize, end: usize, n: u32) -> Checked
+    requires { ⌜ (length (now table) ≡ 256) × (end ≤ length (recordsOf (now code))) ⌝ }
+    ensures { λ r. ⌜ r ≡ cond (hasBody (λ op. getD (now (table .entry)) op 0) (slice i end (recordsOf (now (code .entry))))) (Checked.Refused n) (Checked.Refused 5) ⌝ }
+{
+    if has_body(table, code, i, end) {
+        return Checked::Refused(n);
+    }
+    Checked::Refused(5)
+}
+
+// 5 to 7 of the clause from start up to end, its 5 first, by a table of classes: one pass through the first body record.
+fn check_clause(table: &[u8], code: &[u8], start: usize, end: usize, arity: u32) -> Checked
+    requires { ⌜ (length (now table) ≡ 256) × (end ≤ length (recordsOf (now code))) ⌝ }
+    ensures { λ r. ⌜ r ≡ checkClause (λ op. getD (now (table .entry)) op 0) arity (slice start end (recordsOf (now (code .entry)))) ⌝ }
 {
     let mut i = start;
     let mut last = 0;
     while i < end {
         let r = records::get(code, i);
-        if record_bad(crate::class_of(r.kind), r) {
-            return Checked::Refused(6);
+        let class = crate::class_in(table, r.kind);
+        if record_bad(class, r) {
+            return refused_from(table, code, i, end, 6);
         }
-        let a = crate::instruction_arg(r);
+        let a = crate::arg_of_class(class, r);
         match a {
             InstructionArg::NonHead => {
                 return Checked::Passed;
             }
             InstructionArg::ArgedHead(reg, _) => {
                 if register_bad(arity, last, reg) {
-                    return Checked::Refused(7);
+                    return refused_from(table, code, i, end, 7);
                 }
                 last = reg;
             }
@@ -199,17 +212,6 @@ fn check_records(code: &[u8], start: usize, end: usize, arity: u32) -> Checked
             InstructionArg::Prologue => {}
         }
         i += 1;
-    }
-    Checked::Passed
-}
-
-// 5 to 7 of the clause from start up to end, its 5 first.
-fn check_clause(code: &[u8], start: usize, end: usize, arity: u32) -> Checked
-    requires { ⌜ end ≤ length (recordsOf (now code)) ⌝ }
-    ensures { λ r. ⌜ r ≡ checkClause classOf arity (slice start end (recordsOf (now (code .entry)))) ⌝ }
-{
-    if has_body(code, start, end) {
-        return check_records(code, start, end, arity);
     }
     Checked::Refused(5)
 }
@@ -226,17 +228,17 @@ fn clause_end(starts: &[u32], i: usize, n: usize) -> usize
     n
 }
 
-// 5 to 7, clause by clause; the starts were checked before.
-fn check_clauses(code: &[u8], starts: &[u32], arity: u32) -> Checked
-    requires { ⌜ risingBelow (length (recordsOf (now code))) (now starts) ≡ true ⌝ }
-    ensures { λ r. ⌜ r ≡ checkClauses classOf arity (clausesOf (recordsOf (now (code .entry))) (now (starts .entry))) ⌝ }
+// 5 to 7, clause by clause, by a table of classes; the starts were checked before.
+fn check_clauses(table: &[u8], code: &[u8], starts: &[u32], arity: u32) -> Checked
+    requires { ⌜ (length (now table) ≡ 256) × (risingBelow (length (recordsOf (now code))) (now starts) ≡ true) ⌝ }
+    ensures { λ r. ⌜ r ≡ checkClauses (λ op. getD (now (table .entry)) op 0) arity (clausesOf (recordsOf (now (code .entry))) (now (starts .entry))) ⌝ }
 {
     let n = records::capacity(code);
     let mut i = 0;
     while i < starts.len() {
         let start = starts[i] as usize;
         let end = clause_end(starts, i, n);
-        let a = check_clause(code, start, end, arity);
+        let a = check_clause(table, code, start, end, arity);
         let Checked::Passed = a else {
             return a;
         };
@@ -275,7 +277,8 @@ fn check_clauses_of(code: &[u8], starts: &[u32], arity: u32) -> Checked
     let Checked::Passed = b else {
         return b;
     };
-    check_clauses(code, starts, arity)
+    let table = crate::classes();
+    check_clauses(&table, code, starts, arity)
 }
 
 // 1 and 3 to 7: what walk and witness check of the code.

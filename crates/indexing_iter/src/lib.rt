@@ -12,7 +12,7 @@ ghost use lib.ListN.{length, drop, getD, replicate};
 ghost use lib.Seq.{slice};
 ghost use mathlib.Core.List.{map, _++_};
 ghost use Rattle.records.specs.Records.{recordsOf, none};
-ghost use Rattle.indexing_iter.specs.Classes.{classOf, keyOfClass, instructionArg};
+ghost use Rattle.indexing_iter.specs.Classes.{classOf, keyOfClass, argOfClass, instructionArg};
 ghost use Rattle.indexing_iter.specs.Keys.{sortOf, arityOf, bitsOf, groupOf, isOpen, same, headOf, keyIn};
 ghost use Rattle.indexing_iter.specs.Clauses.{keyOf, keysOf, known};
 ghost use Rattle.indexing_iter.specs.Checks.{checkCode};
@@ -69,10 +69,26 @@ const CLASS: [u8; 256] = [
     0, 0, 0, 0, 0, 0, 0, 0, 0, 0, 0, 0, 0, 0, 0, 0,
 ];
 
+// The table, for a caller that looks up many opcodes: the constant is then written out once.
+fn classes() -> [u8; 256]
+    ensures { λ t. ⌜ classOf ≡ (λ op. getD t op 0) ⌝ }
+{
+    CLASS
+}
+
+// The class of an opcode by a table of classes.
+fn class_in(table: &[u8], op: u8) -> u8
+    requires { ⌜ length (now table) ≡ 256 ⌝ }
+    ensures { λ r. ⌜ r ≡ getD (now (table .entry)) op 0 ⌝ }
+{
+    table[op as usize]
+}
+
 pub fn class_of(op: u8) -> u8
     ensures { λ r. ⌜ r ≡ classOf op ⌝ }
 {
-    CLASS[op as usize]
+    let table = classes();
+    table[op as usize]
 }
 
 // A key's sort: 1 atom, 2 integer, 3 float, 4 structure, 5 list, 0 none.
@@ -174,11 +190,10 @@ fn key_of_class(class: u8, r: Rec) -> OptArgIndexKey
     OptArgIndexKey::List
 }
 
-// What one record says of an argument.
-fn instruction_arg(r: Rec) -> InstructionArg
-    ensures { λ a. ⌜ a ≡ instructionArg classOf r ⌝ }
+// What a record of a class says of an argument.
+fn arg_of_class(class: u8, r: Rec) -> InstructionArg
+    ensures { λ a. ⌜ a ≡ argOfClass class r ⌝ }
 {
-    let class = class_of(r.kind);
     if class == 1 {
         return InstructionArg::Prologue;
     }
@@ -203,7 +218,8 @@ pub fn extract_index_arg(code: &[u8], i: usize) -> InstructionArg
     requires { ⌜ i < length (recordsOf (now code)) ⌝ }
     ensures { λ a. ⌜ a ≡ instructionArg classOf (getD (recordsOf (now (code .entry))) i none) ⌝ }
 {
-    instruction_arg(records::get(code, i))
+    let r = records::get(code, i);
+    arg_of_class(class_of(r.kind), r)
 }
 
 // The key at argument j that the records from start up to end give.

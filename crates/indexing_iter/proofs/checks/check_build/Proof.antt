@@ -1,7 +1,8 @@
 -- 1 to 8: the first refusal is handed on; where 1 and 2 passed, c is at most 32. Assumes nothing.
-use mathlib.Core.Path.{refl, sym, _∙_}
+use mathlib.Core.Path.{_≡_, refl, sym, _∙_}
 use native.Mathlib.Omega.{arith}
-use Rattle.indexing_iter.specs.Checks.{checkBuild}
+use Rattle.indexing_iter.specs.Classes.{classOf}
+use Rattle.indexing_iter.specs.Checks.{refuse, checkBuild}
 use Rattle.indexing_iter.proofs.CheckLaws.{arity-passed, chosen-passed, clauses-of-rising}
 use borrow.Author.Needs.{needs}
 use Rattle.indexing_iter.proofs.checks.check_build.Statement.{statement}
@@ -72,10 +73,13 @@ open-somewhere-requires : tie.Need-open-somewhere-requires
 open-somewhere-requires c κs =
     clauses-of-rising _ _ _ _ (sym (c .before .before .check-clauses-of .ensures) ∙ c .enum-told5 .given .1)
 
-returns-4 : tie.Need-returns-4
+-- 1 to 7 passed, so that 8 decides
+last : (c : tie.After-open-somewhere)
+    → let a = c .before .before .before .before .before .before .before .before .before .before .before .before .args in
+    checkBuild classOf (a .arity) (a .c) (a .code .now) (a .starts .now) ≡ refuse (c .open-somewhere .result) 8
 unfolding checkBuild
-returns-4 c =
-    let c′ = c .before .before in
+last c =
+    let c′ = c .before in
     rw (
       ← c′ .before .before .before .before .before .before .before .before .check-arity .ensures,
       c′ .before .before .before .before .before .before .enum-told .given .1,
@@ -83,24 +87,14 @@ returns-4 c =
       c′ .before .before .before .enum-told3 .given .1,
       ← c′ .before .before .check-clauses-of .ensures,
       c′ .enum-told5 .given .1,
-      ← c .before .open-somewhere .ensures,
-      c .if1 .taken,
+      ← c .open-somewhere .ensures,
     ) refl
 
+returns-4 : tie.Need-returns-4
+returns-4 c = rw (last (c .before), c .if1 .taken) refl
+
 returns-5 : tie.Need-returns-5
-unfolding checkBuild
-returns-5 c =
-    let c′ = c .before .before in
-    rw (
-      ← c′ .before .before .before .before .before .before .before .before .check-arity .ensures,
-      c′ .before .before .before .before .before .before .enum-told .given .1,
-      ← c′ .before .before .before .before .before .check-chosen .ensures,
-      c′ .before .before .before .enum-told3 .given .1,
-      ← c′ .before .before .check-clauses-of .ensures,
-      c′ .enum-told5 .given .1,
-      ← c .before .open-somewhere .ensures,
-      c .if1 .left,
-    ) refl
+returns-5 c = rw (last (c .before), c .if1 .left) refl
 
 pub check-build-spec : {M : Type 1} → statement M
 check-build-spec =

@@ -5,9 +5,9 @@ use native.Mathlib.Omega.{arith}
 use lib.ListN.{length, drop}
 use borrow.Author.Needs.{needs}
 use Rattle.records.specs.Records.{recordsOf}
-use Rattle.indexing_iter.specs.Classes.{classOf}
 use Rattle.indexing_iter.specs.Clauses.{clausesOf}
 use Rattle.indexing_iter.specs.Checks.{checkClauses, orElse}
+use Rattle.indexing_iter.proofs.Table.{classIn}
 use Rattle.indexing_iter.proofs.CheckLaws.{clauses-step, clauses-none, end-within}
 use Rattle.indexing_iter.proofs.checks.check_clauses.Statement.{statement}
 use Rattle.indexing_iter.proofs.checks.check_clauses.Tie as tie
@@ -18,22 +18,22 @@ use Rattle.indexing_iter.proofs.checks.clause_end.Reads as clause-end-r
 use Rattle.records.proofs.capacity.Reads as capacity-reads
 
 abbrev Inv-loop : tie.InvT-loop
-Inv-loop code starts arity n i₀ i = checkClauses classOf arity (clausesOf (recordsOf code) (drop i starts)) ≡ checkClauses classOf arity (clausesOf (recordsOf code) starts)
+Inv-loop table code starts arity n i₀ i = checkClauses (classIn table) arity (clausesOf (recordsOf code) (drop i starts)) ≡ checkClauses (classIn table) arity (clausesOf (recordsOf code) starts)
 
 abbrev μ-loop : tie.MeasureT-loop
-μ-loop code starts arity n i₀ i = length starts - i
+μ-loop table code starts arity n i₀ i = length starts - i
 
 -- in a turn: the clause at i, and then those after it
 turn : (c : tie.After-check-clause Inv-loop μ-loop)
     → let at = c .before .before .before .before in
-    let a = at .before .before .before .before .args in
+    let a = at .before .before .before .before .before .args in
     let rs = recordsOf (a .code .now) in
-    orElse (c .check-clause .result) (checkClauses classOf (a .arity) (clausesOf rs (drop (at .loop .i + 1) (a .starts .now))))
-    ≡ checkClauses classOf (a .arity) (clausesOf rs (a .starts .now))
+    orElse (c .check-clause .result) (checkClauses (classIn (a .table .now)) (a .arity) (clausesOf rs (drop (at .loop .i + 1) (a .starts .now))))
+    ≡ checkClauses (classIn (a .table .now)) (a .arity) (clausesOf rs (a .starts .now))
 unfolding checkClauses
 turn c =
     let at = c .before .before .before .before in
-    let rs = recordsOf (at .before .before .before .before .args .code .now) in
+    let rs = recordsOf (at .before .before .before .before .before .args .code .now) in
     rw (clauses-step rs _ _ _ _ (c .before .before .before .loop-test .taken) (at .before .capacity .ensures) (c .before .clause-end .ensures), ← c .check-clause .ensures)
     at (at .loop .inv)
 
@@ -50,7 +50,7 @@ shared-slice-read-start : tie.Need-shared-slice-read-start Inv-loop μ-loop
 shared-slice-read-start c = search needs
 
 cast-start : tie.Need-cast-start Inv-loop μ-loop
-cast-start c = omega (arith, c .shared-slice-known3 .given (c .before .before .loop .i))
+cast-start c = omega (arith, c .shared-slice-known4 .given (c .before .before .loop .i))
 
 clause-end-requires : tie.Need-clause-end-requires Inv-loop μ-loop
 clause-end-requires c κs = search needs
@@ -58,8 +58,8 @@ clause-end-requires c κs = search needs
 check-clause-requires : tie.Need-check-clause-requires Inv-loop μ-loop
 check-clause-requires c κs =
     let at = c .before .before .before in
-    let a = at .before .before .before .before .args in
-    end-within (length (recordsOf (a .code .now))) _ (a .starts .now) (at .loop .i + 1) _ (search needs) (at .before .capacity .ensures) (c .clause-end .ensures)
+    let a = at .before .before .before .before .before .args in
+    (search needs, end-within (length (recordsOf (a .code .now))) _ (a .starts .now) (at .loop .i + 1) _ (search needs) (at .before .capacity .ensures) (c .clause-end .ensures))
 
 enum-told : tie.Need-enum-told Inv-loop μ-loop
 enum-told c = search needs
@@ -81,7 +81,7 @@ loop-again c = rw (c .enum-told .given .1) at (turn (c .before .before))
 
 returns-2 : tie.Need-returns-2 Inv-loop μ-loop
 unfolding checkClauses
-returns-2 c = rw (clauses-none (recordsOf (c .before .before .before .before .before .args .code .now)) _ _ (c .loop-test .left)) at (c .before .loop .inv)
+returns-2 c = rw (clauses-none (recordsOf (c .before .before .before .before .before .before .args .code .now)) _ _ (c .loop-test .left)) at (c .before .loop .inv)
 
 pub check-clauses-spec : {M : Type 1} → statement M
 check-clauses-spec =

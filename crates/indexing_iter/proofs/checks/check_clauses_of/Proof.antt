@@ -7,6 +7,7 @@ use Rattle.indexing_iter.proofs.checks.check_clauses_of.Statement.{stat
 use Rattle.indexing_iter.proofs.checks.check_clauses_of.Tie as tie
 use Rattle.indexing_iter.proofs.checks.check_clauses_of.Reads as reads
 use Rattle.indexing_iter.proofs.checks.check_clauses_of.Lts as lts
+use Rattle.indexing_iter.proofs.classes.Reads as classes-reads
 use Rattle.indexing_iter.proofs.checks.check_clauses.Reads as check-clauses-reads
 use Rattle.indexing_iter.proofs.checks.check_size.Reads as check-size-reads
 use Rattle.indexing_iter.proofs.checks.check_starts.Reads as check-starts-reads
@@ -37,16 +38,29 @@ returns-2 : tie.Need-returns-2
 unfolding checkClausesOf
 returns-2 c = rw (← c .before .before .before .before .before .check-size .ensures, c .before .before .before .enum-told .given .1, ← c .before .before .check-starts .ensures, c .enum-told4 .given .1) refl
 
+classes-requires : tie.Need-classes-requires
+classes-requires c κs = search needs
+
+slice-aggregate-check-clauses : tie.Need-slice-aggregate-check-clauses
+slice-aggregate-check-clauses c = search needs
+
 check-clauses-requires : tie.Need-check-clauses-requires
 check-clauses-requires c κs =
-    let a = c .before .before .before .before .before .before .before .before .args in
-    rising-passed (a .code .now) (a .starts .now) (sym (c .before .before .check-starts .ensures) ∙ c .enum-told3 .given .1)
+    let told = c .before .before in
+    let a = told .before .before .before .before .before .before .before .before .args in
+    (search needs, rising-passed (a .code .now) (a .starts .now) (sym (told .before .before .check-starts .ensures) ∙ told .enum-told3 .given .1))
 
 returns-3 : tie.Need-returns-3
 unfolding checkClausesOf
 returns-3 c =
-    rw (← c .before .before .before .before .before .before .check-size .ensures, c .before .before .before .before .enum-told .given .1, ← c .before .before .before .check-starts .ensures, c .before .enum-told3 .given .1)
-    (c .check-clauses .ensures)
+    let told = c .before .before .before in
+    rw (
+      ← told .before .before .before .before .before .check-size .ensures,
+      told .before .before .before .enum-told .given .1,
+      ← told .before .before .check-starts .ensures,
+      told .enum-told3 .given .1,
+      c .before .before .classes .ensures,
+    ) (c .check-clauses .ensures)
 
 pub check-clauses-of-spec : {M : Type 1} → statement M
 check-clauses-of-spec =
@@ -60,5 +74,7 @@ check-clauses-of-spec =
     enum-told-3
     enum-told-4
     returns-2
+    classes-requires
+    slice-aggregate-check-clauses
     check-clauses-requires
     returns-3)

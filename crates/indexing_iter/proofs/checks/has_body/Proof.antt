@@ -5,37 +5,51 @@ use mathlib.Core.Bool.{_||_}
 use lib.Seq.{slice}
 use borrow.Author.Needs.{needs}
 use Rattle.records.specs.Records.{recordsOf}
-use Rattle.indexing_iter.specs.Classes.{classOf}
 use Rattle.indexing_iter.specs.Checks.{hasBody}
+use Rattle.indexing_iter.proofs.Table.{classIn}
 use Rattle.indexing_iter.proofs.CheckLaws.{body-step, body-none}
 use Rattle.indexing_iter.proofs.checks.has_body.Statement.{statement}
 use Rattle.indexing_iter.proofs.checks.has_body.Tie as tie
 use Rattle.indexing_iter.proofs.checks.has_body.Reads as reads
 use Rattle.indexing_iter.proofs.checks.has_body.Lts as lts
 use Rattle.indexing_iter.proofs.checks.is_body.Reads as is-body-reads
-use Rattle.indexing_iter.proofs.extract_index_arg.Reads as extract-index-arg-reads
+use Rattle.indexing_iter.proofs.class_in.Reads as class-in-reads
+use Rattle.indexing_iter.proofs.arg_of_class.Reads as arg-of-class-reads
+use Rattle.records.proofs.get.Reads as get-reads
 
 abbrev Inv-loop : tie.InvT-loop
-Inv-loop code start end i₀ i = hasBody classOf (slice i end (recordsOf code)) ≡ hasBody classOf (slice start end (recordsOf code))
+Inv-loop table code start end i₀ i = hasBody (classIn table) (slice i end (recordsOf code)) ≡ hasBody (classIn table) (slice start end (recordsOf code))
 
 abbrev μ-loop : tie.MeasureT-loop
-μ-loop code start end i₀ i = end - i
+μ-loop table code start end i₀ i = end - i
 
 -- in a turn: whether the record at i is a body record, and whether one after it is
 turn : (c : tie.After-is-body Inv-loop μ-loop)
-    → let a = c .before .before .before .before .before .args in
+    → let at = c .before .before .before .before .before in
+    let a = at .before .before .before .args in
     let rs = recordsOf (a .code .now) in
-    (c .is-body .result || hasBody classOf (slice (c .before .before .before .loop .i + 1) (a .end) rs)) ≡ hasBody classOf (slice (a .start) (a .end) rs)
+    let cls = classIn (a .table .now) in
+    (c .is-body .result || hasBody cls (slice (at .loop .i + 1) (a .end) rs)) ≡ hasBody cls (slice (a .start) (a .end) rs)
 turn c =
-    let rs = recordsOf (c .before .before .before .before .before .args .code .now) in
-    rw (body-step _ rs _ _ (c .before .before .loop-test .taken) (search needs), ← c .before .extract-index-arg .ensures, ← c .is-body .ensures)
-    at (c .before .before .before .loop .inv)
+    let class = c .before .before in
+    let at = class .before .before .before in
+    let a = at .before .before .before .args in
+    let step =
+    body-step (classIn (a .table .now)) (recordsOf (a .code .now)) (at .loop .i) (a .end) _ _ (class .before .before .loop-test .taken) (search needs)
+    (class .before .get .ensures) (class .class-in .ensures) in
+    rw (step, ← c .before .arg-of-class .ensures, ← c .is-body .ensures) at (at .loop .inv)
 
 loop-holds : tie.Need-loop-holds Inv-loop μ-loop
 loop-holds c = search needs
 
-extract-index-arg-requires : tie.Need-extract-index-arg-requires Inv-loop μ-loop
-extract-index-arg-requires c κs = search needs
+get-requires : tie.Need-get-requires Inv-loop μ-loop
+get-requires c κs = search needs
+
+class-in-requires : tie.Need-class-in-requires Inv-loop μ-loop
+class-in-requires c κs = search needs
+
+arg-of-class-requires : tie.Need-arg-of-class-requires Inv-loop μ-loop
+arg-of-class-requires c κs = search needs
 
 is-body-requires : tie.Need-is-body-requires Inv-loop μ-loop
 is-body-requires c κs = search needs
@@ -62,7 +76,9 @@ has-body-spec =
     Inv-loop
     μ-loop
     loop-holds
-    extract-index-arg-requires
+    get-requires
+    class-in-requires
+    arg-of-class-requires
     is-body-requires
     returns
     add-i
