@@ -62,9 +62,13 @@ indices-of-arg-requires c κs =
     let bc = below-count (a .code .now) (a .starts .now) (a .settings) [] (a .index .now) (a .w) st ok (a .a) kind half in
     let ml = s .pre .1 .1 .0 .0 in
     let mt = s .pre .1 .1 .0 .1 in
-    (ok, (all-known (a .code .now) (a .starts .now) (a .settings) (a .index .now) (a .w) st ok (a .a) kind half list el,
-    ((omega (arith, ll, ml, cnt .2), omega (arith, ll, lt, ml, mt)),
-    ((ra .0, ra .1, sm .3, sm .2), (bc, omega (arith, st .fits, k .capacity .ensures .0), k .capacity .ensures .1 .0, k .capacity .ensures .1 .1)))))
+    record {
+      checked = ok;
+      known = all-known (a .code .now) (a .starts .now) (a .settings) (a .index .now) (a .w) st ok (a .a) kind half list el;
+      few = omega (arith, ll, ml, cnt .2);
+      tagged = omega (arith, ll, lt, ml, mt);
+      placed = omega (arith, ra, sm, bc, st .fits, k .capacity .ensures)
+    }
 
 enum-known-x : tie.Need-enum-known-x
 enum-known-x c = search needs
@@ -107,7 +111,7 @@ returns c =
     let len : length b′ ≡ length (a .index .now) = search needs in
     let g = grows (a .code .now) (a .starts .now) (a .settings) (a .index .now) (a .w) st ok (a .a) kind half list tags el et b′
         (λ i. omega (arith, byte i)) (λ i. omega (arith, byte′ i)) len (s .pre .1 .1 .0 .2) (c .before .before .before .before .before .before .before .before .before .capacity .result) (c .before .before .before .before .before .before .before .before .before .capacity .ensures .0)
-        (d .indices-of-arg .result) (d .indices-of-arg .ensures .0) (d .indices-of-arg .ensures .1) in
+        (d .indices-of-arg .result) (d .indices-of-arg .ensures .answer) (d .indices-of-arg .ensures .leaves) in
     let go = rw (c .before .enum-told .given .1) at g in
     subst (WentBound (a .code .now) (a .starts .now) (a .settings) (a .index .now) (a .w) (a .a) b′) (sym (c .unstored-from .ensures)) go
 
@@ -146,7 +150,7 @@ returns-2 c =
     let len : length b′ ≡ length (a .index .now) = search needs in
     let g = grows (a .code .now) (a .starts .now) (a .settings) (a .index .now) (a .w) st ok (a .a) kind half list tags el et b′
         (λ i. omega (arith, byte i)) (λ i. omega (arith, byte′ i)) len (s .pre .1 .1 .0 .2) (c .before .before .before .before .before .before .before .before .before .before .capacity .result) (c .before .before .before .before .before .before .before .before .before .before .capacity .ensures .0)
-        (d .indices-of-arg .result) (d .indices-of-arg .ensures .0) (d .indices-of-arg .ensures .1) in
+        (d .indices-of-arg .result) (d .indices-of-arg .ensures .answer) (d .indices-of-arg .ensures .leaves) in
     let go = rw (c .before .before .x .given .1) at g in
     subst (WentBound (a .code .now) (a .starts .now) (a .settings) (a .index .now) (a .w) (a .a) b′) (sym (c .expanded-at .ensures)) go
 
