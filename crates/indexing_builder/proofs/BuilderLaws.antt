@@ -3,7 +3,7 @@
 use mathlib.Core.Path.{_≡_, refl, sym, ap, ap₂, _∙_, subst}
 use mathlib.Core.Bool.{Bool, true, false, cond}
 use mathlib.Core.List.{List, [], _∷_, _++_}
-use Prim.Native.Nat.{ℕ, zero, suc, _+_, _-_, _*_, _/_, _≤_, _<_}
+use Prim.Native.Nat.{ℕ, suc, _+_, _-_, _*_, _/_, _≤_, _<_}
 use native.Mathlib.Nat.{min-eq-left, min-eq-right, min-le-left}
 use native.Mathlib.Omega.{arith}
 use borrow.Author.Tests.{lt-ltb, le-ltb, ltb-false}
@@ -36,7 +36,7 @@ use Rattle.indexing.specs.Columns.{switchRecs, newLinesRecs, seedRecs}
 use Rattle.indexing.specs.Expanding.{headsAt, bitsAt, leadersAt, opensOf, zerosOf, ColumnsOf}
 use Rattle.indexing.specs.Builder.{capacityOf, stored, builtBy, indexOf, buildCall}
 use Rattle.indexing_builder.specs.Answer.{builtOf}
-use Rattle.indexing_builder.specs.Building.{answerBy, Builds}
+use Rattle.indexing_builder.specs.Building.{answerBy, Builds, Building}
 use Rattle.indexing.proofs.Size.{length-records}
 use Rattle.index_writer.proofs.ColumnLaws.{offsets-known}
 use Rattle.indexing.proofs.BridgeColumns.{InRange}
@@ -176,25 +176,25 @@ module _ (code starts : List ℕ) (S : Settings) (c : ℕ) (passed : checkBuild 
           ∙ ap (λ (x : List Rec). rs ++ x) (rest ∙ ap (λ (k : ℕ). drop k R) (sym n)) in
       wrote-front b b′ rs h h′ (omega arith) (wrote-is e w) ∙ ap (λ (k : ℕ). encode rs ++ drop (16 * k) b) n
 
-  built : (b b′ : List ℕ) (r : BuildAnswer) → Bytes b → Bytes b′ → r ≡ answerBy (capacityOf b) (length seeds + length switch + length lines - 1) (S .skip)
-      → Builds r b b′ seeds switch lines → builtOf r b′ ≡ buildCall classOf code starts S c b
+  built : (b b′ : List ℕ) (r : BuildAnswer) → Bytes b → Bytes b′ → Building r (S .skip) b b′ seeds switch lines
+      → builtOf r b′ ≡ buildCall classOf code starts S c b
   unfolding buildCall indexOf
-  built b b′ r h h′ e w =
-      rw passed (go (ltb (capacityOf b) (size idx)) refl (e ∙ ap (λ (n : ℕ). answerBy (capacityOf b) n (S .skip)) size-is))
+  built b b′ r h h′ w =
+      rw passed (go (ltb (capacityOf b) (size idx)) refl (w .answer ∙ ap (λ (n : ℕ). answerBy (capacityOf b) n (S .skip)) size-is))
     where
       go : (t : Bool) → ltb (capacityOf b) (size idx) ≡ t → r ≡ cond t (Turned 9) (Done (size idx) (cond (S .skip) 2 1))
           → builtOf r b′ ≡ builtBy (cond t (Refused 9) Passed) S idx b
       go true q f =
           ap (λ (x : BuildAnswer). builtOf x b′) f
-          ∙ ap (λ (y : List ℕ). builtOf (Turned 9) y) (subst (λ (x : BuildAnswer). Builds x b b′ seeds switch lines) f w)
+          ∙ ap (λ (y : List ℕ). builtOf (Turned 9) y) (subst (λ (x : BuildAnswer). Builds x b b′ seeds switch lines) f (w .leaves))
       go false q f =
           let room : size idx ≤ length (recordsOf b) = omega (arith, ltb-false (capacityOf b) (size idx) q, capacity-within b) in
           ap (λ (x : BuildAnswer). builtOf x b′) f
           ∙ ap (λ (y : List ℕ). builtOf (Done (size idx) (cond (S .skip) 2 1)) y)
-            (left b b′ room h h′ (subst (λ (x : BuildAnswer). Builds x b b′ seeds switch lines) f w))
+            (left b b′ room h h′ (subst (λ (x : BuildAnswer). Builds x b b′ seeds switch lines) f (w .leaves)))
 
   -- the same by the columns
-  module _ (os tags leaders heads sizes zeros bits opens : List ℕ) (o : os ≡ offsetsOf starts) (t : tags ≡ replicate (length starts) 7)
+  module _ {os tags leaders heads sizes zeros bits opens : List ℕ} (o : os ≡ offsetsOf starts) (t : tags ≡ replicate (length starts) 7)
       (C : ColumnsOf K (S .arity) os c leaders heads sizes zeros bits opens) where
     seeds-are : seedRecs zeros opens os tags S c ≡ seeds
     seeds-are = rw (C .zeros-are, C .opens-are, o, t)
@@ -205,10 +205,7 @@ module _ (code starts : List ℕ) (S : Settings) (c : ℕ) (passed : checkBuild 
     lines-are : newLinesRecs leaders heads opens os tags S c 1 ≡ lines
     lines-are = rw (C .leaders-are, C .heads-are, C .opens-are, o, t)
 
-    pub built-by : (b b′ : List ℕ) (room : ℕ) (r : BuildAnswer) → Bytes b → Bytes b′ → room ≡ capacityOf b
-        → r ≡ answerBy room (length (seedRecs zeros opens os tags S c) + length (switchRecs leaders heads bits os (S .dynamic) c 1)
-          + length (newLinesRecs leaders heads opens os tags S c 1) - 1) (S .skip)
-        → Builds r b b′ (seedRecs zeros opens os tags S c) (switchRecs leaders heads bits os (S .dynamic) c 1) (newLinesRecs leaders heads opens os tags S c 1)
+    pub built-by : (b b′ : List ℕ) (r : BuildAnswer) → Bytes b → Bytes b′
+        → Building r (S .skip) b b′ (seedRecs zeros opens os tags S c) (switchRecs leaders heads bits os (S .dynamic) c 1) (newLinesRecs leaders heads opens os tags S c 1)
         → builtOf r b′ ≡ buildCall classOf code starts S c b
-    built-by b b′ room r h h′ q e w =
-        built b b′ r h h′ (rw (q, seeds-are, switch-is, lines-are) at e) (rw (seeds-are, switch-is, lines-are) at w)
+    built-by b b′ r h h′ w = built b b′ r h h′ (rw (seeds-are, switch-is, lines-are) at w)

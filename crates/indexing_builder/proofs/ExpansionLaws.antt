@@ -1,14 +1,13 @@
 -- The expansion by the columns that the code fills: its answer, its block and its new lines.
 -- Assumes nothing.
-use mathlib.Core.Path.{_≡_, refl, sym, ap, ap₂, _∙_}
-use mathlib.Core.Bool.{Bool, true, false, cond}
+use mathlib.Core.Path.{_≡_, ap, ap₂, _∙_}
+use mathlib.Core.Bool.{Bool, true, false}
 use mathlib.Core.List.{List, [], _++_}
 use mathlib.Core.Option.{some}
-use Prim.Native.Nat.{ℕ, _+_, _-_, _*_, _≤_, _<_}
+use Prim.Native.Nat.{ℕ, _+_, _-_, _≤_, _<_}
 use native.Mathlib.Omega.{arith}
 use borrow.Author.Tests.{le-leb, lt-leb}
-use lib.ListN.{length, getD, take, drop, replicate, length-replicate}
-use lib.Seq.{take-at}
+use lib.ListN.{length, getD, take, drop, length-replicate}
 use Rattle.records.specs.declared.Rec.{Rec}
 use Rattle.records.specs.Records.{recordsOf, Wrote}
 use Rattle.records.specs.Moves.{spliced}
@@ -26,17 +25,17 @@ use Rattle.indexing.specs.Lines.{onDemand, Index, lineAt, offs, find, records, 
 use Rattle.indexing.specs.Build.{programOf}
 use Rattle.indexing.specs.Expand.{expand}
 use Rattle.index_writer.specs.Choices.{AllKnown}
+use Rattle.indexing_builder.specs.declared.expansion.OnDemand.{OnDemand}
 use Rattle.indexing_builder.specs.declared.expansion.Expanded.{Expanded}
 use Rattle.indexing_builder.specs.declared.expansion.Expanded.the-variants.{Stored, NoRoom}
 use Rattle.indexing.specs.Upto.{anyTo}
-use Rattle.indexing.specs.Columns.{leadersTo, opensTo, sizesTo, openMember, deadRecs, switchRecs, newLinesRecs}
-use Rattle.indexing.specs.Expanding.{headsAt, bitsAt, leadersAt, opensOf, zerosOf, ColumnsOf, blockRecs, moreRecs, linesMade, moreLines}
-use Rattle.indexing_builder.specs.Expansion.{answerFor, Expands}
+use Rattle.indexing.specs.Columns.{openMember, deadRecs, switchRecs, newLinesRecs}
+use Rattle.indexing.specs.Expanding.{opensOf, zerosOf, ColumnsOf, blockRecs, moreRecs, linesMade, moreLines}
+use Rattle.indexing_builder.specs.Expansion.{answerFor, Expansion}
 use Rattle.indexing.proofs.Records.{before}
-use Rattle.indexing.proofs.Size.{length-records}
 use Rattle.indexing.proofs.BridgeLines.{Tagged}
 use Rattle.indexing.proofs.BridgeExpand.{expand-size, expand-lines, expand-spliced}
-use Rattle.indexing.proofs.BridgeColumns.{InRange, length-heads, length-bits, length-leaders}
+use Rattle.indexing.proofs.BridgeColumns.{InRange}
 
 -- ---- answers
 
@@ -47,13 +46,9 @@ pub answer-stored : (capacity size lines : ℕ) {size′ lines′ : ℕ} → siz
 answer-stored capacity size lines e f h = rw (← e, ← f, le-leb size capacity h)
 
 -- the same by other names
-module _ (capacity n lines : ℕ) (block block′ more more′ : List Rec) (new new′ : ℕ) (r : Expanded) (e : block ≡ block′) (f : more ≡ more′) (g : new ≡ new′) where
-  pub answer-as : r ≡ answerFor capacity (n + length block + length more - 1) (lines + new)
-      → r ≡ answerFor capacity (n + length block′ + length more′ - 1) (lines + new′)
-  answer-as h = rw (← e, ← f, ← g) h
-
-  pub expands-as : (b b′ : List ℕ) (p : ℕ) → Expands r b b′ p n block more → Expands r b b′ p n block′ more′
-  expands-as b b′ p h = rw (← e, ← f) h
+pub expansion-as : (t : OnDemand) (b b′ : List ℕ) (r : Expanded) {block block′ more more′ : List Rec} {new new′ : ℕ} → block ≡ block′ → more ≡ more′ → new ≡ new′
+    → Expansion r t b b′ block more new → Expansion r t b b′ block′ more′ new′
+expansion-as t b b′ r e f g x = rw (← e, ← f, ← g) x
 
 -- a dead table and a switch have their own record
 pub dead-some : (zeros opens offs : List ℕ) (a : ℕ) → 1 ≤ length (deadRecs zeros opens offs a)
@@ -64,28 +59,11 @@ pub switch-some : (leaders heads bits offs : List ℕ) (dynamic : Bool) (a d : �
 unfolding switchRecs
 switch-some leaders heads bits offs dynamic a d = omega arith
 
--- a dead table makes no lines
-pub answer-dead : (capacity n lines : ℕ) (block : List Rec) (r : Expanded) → r ≡ answerFor capacity (n + length block - 1) lines
-    → r ≡ answerFor capacity (n + length block + 0 - 1) (lines + 0)
-answer-dead capacity n lines block r h =
-    let e : n + length block - 1 ≡ n + length block + 0 - 1 = omega arith in
-    let f : lines ≡ lines + 0 = omega arith in
-    h ∙ ap₂ (answerFor capacity) e f
-
 -- ---- the columns
 
-module _ (S : Settings) (K : ℕ → ℕ → Key) (os : List ℕ) (a : ℕ) (leaders heads sizes zeros bits opens : List ℕ)
+module _ (S : Settings) {K : ℕ → ℕ → Key} {os : List ℕ} {a : ℕ} {leaders heads sizes zeros bits opens : List ℕ}
     (C : ColumnsOf K (S .arity) os a leaders heads sizes zeros bits opens) where
-  pub leaders-count : length leaders ≡ length os
-  leaders-count = ap length (C .leaders-are) ∙ length-leaders K os a
-
-  pub heads-count : length heads ≡ length os
-  heads-count = ap length (C .heads-are) ∙ length-heads K os a
-
-  pub bits-count : length bits ≡ length os
-  bits-count = ap length (C .bits-are) ∙ length-bits K os a
-
-  pub zeros-count : length zeros ≡ length os
+  zeros-count : length zeros ≡ length os
   zeros-count = ap length (C .zeros-are) ∙ length-replicate (length os) 0
 
   any-here : anyTo (openMember (zerosOf os) (opensOf S K os) os 0 a) (length os) ≡ anyTo (openMember zeros opens [] 0 a) (length zeros)
@@ -121,30 +99,16 @@ module _ (S : Settings) (K : ℕ → ℕ → Key) (os : List ℕ) (a : ℕ) (lea
     dead-lines = rw (any-here, opened)
 
   -- the whole expansion
-  module _ (tags : List ℕ) (capacity n p l lines : ℕ) (b b′ : List ℕ) (r : Expanded) where
+  module _ (tags : List ℕ) (t : OnDemand) (b b′ : List ℕ) (r : Expanded) where
     pub switch-expanded : anyTo (openMember zeros opens [] 0 a) (length zeros) ≡ false
-        → r ≡ answerFor capacity (n + length (switchRecs leaders heads bits os (S .dynamic) a (lines - l))
-          + length (newLinesRecs leaders heads opens os tags S a lines) - 1) (lines + linesMade leaders heads (S .dynamic))
-        → Expands r b b′ p n (switchRecs leaders heads bits os (S .dynamic) a (lines - l)) (newLinesRecs leaders heads opens os tags S a lines)
-        → (r ≡ answerFor capacity (n + length (blockRecs S K os a (lines - l)) + length (moreRecs S K os tags a lines) - 1) (lines + moreLines S K os a))
-          × Expands r b b′ p n (blockRecs S K os a (lines - l)) (moreRecs S K os tags a lines)
-    switch-expanded keyed h w =
-        let e = switch-block keyed (lines - l) in
-        let f = switch-more keyed tags lines in
-        let g = switch-lines keyed in
-        (answer-as capacity n lines _ _ _ _ _ _ r e f g h, expands-as capacity n lines _ _ _ _ _ _ r e f g b b′ p w)
+        → Expansion r t b b′ (switchRecs leaders heads bits os (S .dynamic) a (t .lines - t .line)) (newLinesRecs leaders heads opens os tags S a (t .lines))
+          (linesMade leaders heads (S .dynamic))
+        → Expansion r t b b′ (blockRecs S K os a (t .lines - t .line)) (moreRecs S K os tags a (t .lines)) (moreLines S K os a)
+    switch-expanded keyed = expansion-as t b b′ r (switch-block keyed (t .lines - t .line)) (switch-more keyed tags (t .lines)) (switch-lines keyed)
 
-    pub dead-expanded : anyTo (openMember zeros opens [] 0 a) (length zeros) ≡ true
-        → r ≡ answerFor capacity (n + length (deadRecs zeros opens os a) - 1) lines
-        → Expands r b b′ p n (deadRecs zeros opens os a) []
-        → (r ≡ answerFor capacity (n + length (blockRecs S K os a (lines - l)) + length (moreRecs S K os tags a lines) - 1) (lines + moreLines S K os a))
-          × Expands r b b′ p n (blockRecs S K os a (lines - l)) (moreRecs S K os tags a lines)
-    dead-expanded opened h w =
-        let e = dead-block opened (lines - l) in
-        let f = dead-more opened tags lines in
-        let g = dead-lines opened in
-        (answer-as capacity n lines _ _ _ _ _ _ r e f g (answer-dead capacity n lines (deadRecs zeros opens os a) r h),
-        expands-as capacity n lines _ _ _ _ _ _ r e f g b b′ p w)
+    pub dead-expanded : anyTo (openMember zeros opens [] 0 a) (length zeros) ≡ true → Expansion r t b b′ (deadRecs zeros opens os a) [] 0
+        → Expansion r t b b′ (blockRecs S K os a (t .lines - t .line)) (moreRecs S K os tags a (t .lines)) (moreLines S K os a)
+    dead-expanded opened = expansion-as t b b′ r (dead-block opened (t .lines - t .line)) (dead-more opened tags (t .lines)) (dead-lines opened)
 
 -- ---- what the expansion on the buffer is: section 4's
 
@@ -206,7 +170,3 @@ module _ (code starts : List ℕ) (S : Settings) (checked : checkCode classOf (S
       ∙ ap (λ (x : ℕ). spliced (recordsOf b) (length (before mode idx l a)) (size idx) (blockRecs S K os a (x - l)) (moreRecs S K os tags a x)) g
       ∙ expand-spliced S K idx l a c h dem small first last ranged tags own (recordsOf b) q)
       w
-
-  pub expansion-front : (b b′ : List ℕ) → Wrote b b′ (records mode 0 after ++ drop (size after) (recordsOf b)) → take (size after) (recordsOf b′) ≡ records mode 0 after
-  expansion-front b b′ w =
-      ap (take (size after)) (w .records) ∙ take-at (records mode 0 after) (drop (size after) (recordsOf b)) (size after) (length-records mode 0 after)

@@ -1,13 +1,23 @@
 -- The answer of an expansion, and what it leaves of the buffer (document 01, sections 4 and 5). For contracts of inner functions.
 -- Assumes nothing.
-use Prim.Native.Nat.{ℕ}
+use Prim.Native.Nat.{ℕ, _+_, _-_, _*_, _≤_, _<_}
 use mathlib.Core.Path.{_≡_}
 use mathlib.Core.Bool.{cond}
 use mathlib.Core.List.{List}
 use lib.Dec.{leb}
+use lib.ListN.{length}
 use Rattle.records.specs.declared.Rec.{Rec}
 use Rattle.records.specs.Records.{recordsOf, Wrote}
 use Rattle.records.specs.Moves.{spliced}
+use Rattle.indexing_iter.specs.declared.Settings.{Settings}
+use Rattle.indexing_iter.specs.declared.Checked.the-variants.{Passed}
+use Rattle.indexing_iter.specs.Classes.{classOf}
+use Rattle.indexing_iter.specs.Clauses.{keyOf}
+use Rattle.indexing_iter.specs.Checks.{checkCode}
+use Rattle.indexing.specs.Columns.{sizesTo}
+use Rattle.indexing.specs.Expanding.{blockRecs, moreRecs, moreLines}
+use Rattle.index_writer.specs.Choices.{AllKnown}
+use Rattle.indexing_builder.specs.declared.expansion.OnDemand.{OnDemand}
 use Rattle.indexing_builder.specs.declared.expansion.Expanded.{Expanded}
 use Rattle.indexing_builder.specs.declared.expansion.Expanded.the-variants.{Stored, NoRoom}
 
@@ -19,3 +29,40 @@ answerFor capacity size lines = cond (leb size capacity) (Stored size lines) NoR
 abbrev pub Expands : Expanded → List ℕ → List ℕ → ℕ → ℕ → List Rec → List Rec → Type 0
 Expands (Stored count lines) b b′ p n block more = Wrote b b′ (spliced (recordsOf b) p n block more)
 Expands NoRoom b b′ p n block more = b′ ≡ b
+
+-- a table for an argument up to the arity, in a line of an index that the buffer b has
+pub record Placed (t : OnDemand) (arity : ℕ) (b : List ℕ) : Type 0 where
+  pub first : 1 ≤ t .arg
+  pub last : t .arg ≤ arity
+  pub own : t .line < t .lines
+  pub few-lines : t .lines ≤ 65535
+  pub here : t .at < t .count
+  pub fits : t .count ≤ t .capacity
+  pub within : t .capacity ≤ length (recordsOf b)
+  pub few-records : t .capacity ≤ 65535
+
+-- what the expansion of a line asks: its offsets os are those of at most 1,024 clauses of checked code, with a tag for each
+pub record Expandable (t : OnDemand) (S : Settings) (code starts b os tags : List ℕ) : Type 0 where
+  pub checked : checkCode classOf (S .arity) code starts ≡ Passed
+  pub known : AllKnown starts os
+  pub few : length os ≤ 1024
+  pub tagged : length tags ≡ length os
+  pub placed : Placed t (S .arity) b
+
+-- the columns that a switch is written from: of one length, at most 1,024 clauses, with the sizes of the buckets
+pub record SwitchColumns (leaders heads sizes bits opens os tags : List ℕ) : Type 0 where
+  pub counts :
+      (length leaders ≤ 1024) × (length heads ≡ length leaders) × (length bits ≡ length leaders) × (length opens ≡ 32 * length leaders)
+      × (length os ≡ length leaders) × (length tags ≡ length leaders)
+  pub sizes-are : sizes ≡ sizesTo leaders (length leaders)
+
+-- the table t expanded: answer and buffer where the block takes its place, and more follows with so many new lines
+pub record Expansion (r : Expanded) (t : OnDemand) (b b′ : List ℕ) (block more : List Rec) (new : ℕ) : Type 0 where
+  pub answer : r ≡ answerFor (t .capacity) (t .count + length block + length more - 1) (t .lines + new)
+  pub leaves : Expands r b b′ (t .at) (t .count) block more
+
+-- the table t of the line with offsets os and these tags expanded
+abbrev pub LineExpansion : Expanded → OnDemand → Settings → List ℕ → List ℕ → List ℕ → List ℕ → List ℕ → List ℕ → Type 0
+LineExpansion r t S code starts b b′ os tags =
+    Expansion r t b b′ (blockRecs S (keyOf classOf (recordsOf code) starts) os (t .arg) (t .lines - t .line))
+    (moreRecs S (keyOf classOf (recordsOf code) starts) os tags (t .arg) (t .lines)) (moreLines S (keyOf classOf (recordsOf code) starts) os (t .arg))

@@ -12,14 +12,20 @@ ghost use Prim.Native.Nat.{_+_, _-_, _*_, _≤_, _<_};
 ghost use lib.ListN.{length};
 ghost use Rattle.records.specs.Records.{recordsOf, Wrote};
 ghost use Rattle.records.specs.Moves.{spliced};
-ghost use Rattle.indexing_iter.specs.Classes.{classOf};
-ghost use Rattle.indexing_iter.specs.Clauses.{keyOf};
-ghost use Rattle.indexing_iter.specs.declared.Checked.{Checked};
-ghost use Rattle.indexing_iter.specs.Checks.{checkCode};
 ghost use Rattle.indexing.specs.Columns.{sizesTo, deadRecs, switchRecs, newLinesRecs};
-ghost use Rattle.index_writer.specs.Choices.{AllKnown};
-ghost use Rattle.indexing.specs.Expanding.{linesMade, blockRecs, moreRecs, moreLines};
-ghost use Rattle.indexing_builder.specs.Expansion.{answerFor, Expands};
+ghost use Rattle.indexing.specs.Expanding.{linesMade};
+ghost use Rattle.indexing_builder.specs.Expansion.{Placed, Expandable, SwitchColumns, Expansion, LineExpansion};
+
+// An on-demand table, and where it stands: for argument arg, its record at place at of count records, in line number line of lines, in an
+// index that may grow to capacity records.
+pub struct OnDemand {
+    pub arg: u32,
+    pub at: usize,
+    pub count: usize,
+    pub line: u32,
+    pub lines: u32,
+    pub capacity: usize,
+}
 
 // What an expansion answers: the records and lines of the index after it, or that it does not fit.
 pub enum Expanded {
@@ -40,23 +46,12 @@ fn count_new_lines(leaders: &[u32], heads: &[u32], sizes: &[u32], dynamic: bool)
     lists + structures + literals
 }
 
-// Puts the dead table for argument a in place of the record at place p of n; it takes k records more than that one.
-fn write_dead(index: &mut [u8], n: usize, p: usize, k: usize, zeros: &[u32], opens: &[u8], offs: &[u32], a: u32)
-    requires { ⌜ (length (now zeros) ≤ 1024) × (length (now opens) ≡ 32 * length (now zeros)) × (length (now offs) ≡ length (now zeros)) ⌝ }
-    requires { ⌜ (1 ≤ a) × (a ≤ 32) × (p < n) × (n + k ≤ length (recordsOf (now index))) ⌝ }
-    requires { ⌜ length (deadRecs (now zeros) (now opens) (now offs) a) ≡ k + 1 ⌝ }
-    ensures { λ _. ⌜ Wrote (now (index .entry)) (now (index .exit)) (spliced (recordsOf (now (index .entry))) p n (deadRecs (now (zeros .entry)) (now (opens .entry)) (now (offs .entry)) a) []) ⌝ }
-{
-    records::open_gap(index, p, n, k);
-    later_tables::put_dead(index, p, zeros, opens, offs, a);
-}
-
-// Puts the switch on argument a in place of the record at place p of n, and its lines behind them: the switch takes k records more than
-// that one, d is the distance of its first line, and number that line's.
+// Puts the switch in place of the table t, and its lines behind all: the switch takes k records more than the table, and d is the distance
+// of its first line.
 pub fn write_switch(
     index: &mut [u8],
-    n: usize,
-    p: usize,
+    t: OnDemand,
+    d: u32,
     k: usize,
     leaders: &[u32],
     heads: &[u32],
@@ -66,37 +61,37 @@ pub fn write_switch(
     offs: &[u32],
     tags: &[u8],
     settings: Settings,
-    a: u32,
-    d: u32,
-    number: u32,
 )
-    requires { ⌜ (length (now leaders) ≤ 1024) × (length (now heads) ≡ length (now leaders)) × (length (now bits) ≡ length (now leaders)) × (length (now opens) ≡ 32 * length (now leaders)) × (length (now offs) ≡ length (now leaders)) × (length (now tags) ≡ length (now leaders)) ⌝ }
-    requires { ⌜ now sizes ≡ sizesTo (now leaders) (length (now leaders)) ⌝ }
-    requires { ⌜ (1 ≤ a) × (a ≤ settings .arity) × (settings .arity ≤ 32) × (d ≤ 65536) × (number ≤ 65536) × (p < n) ⌝ }
-    requires { ⌜ length (switchRecs (now leaders) (now heads) (now bits) (now offs) (settings .dynamic) a d) ≡ k + 1 ⌝ }
-    requires { ⌜ n + k + length (newLinesRecs (now leaders) (now heads) (now opens) (now offs) (now tags) settings a number) ≤ length (recordsOf (now index)) ⌝ }
-    ensures { λ _. ⌜ Wrote (now (index .entry)) (now (index .exit)) (spliced (recordsOf (now (index .entry))) p n (switchRecs (now (leaders .entry)) (now (heads .entry)) (now (bits .entry)) (now (offs .entry)) (settings .dynamic) a d) (newLinesRecs (now (leaders .entry)) (now (heads .entry)) (now (opens .entry)) (now (offs .entry)) (now (tags .entry)) settings a number)) ⌝ }
+    requires { ⌜ SwitchColumns (now leaders) (now heads) (now sizes) (now bits) (now opens) (now offs) (now tags) ⌝ }
+    requires { ⌜ Placed t (settings .arity) (now index) ⌝ }
+    requires { ⌜ (settings .arity ≤ 32) × (d ≤ 65536) ⌝ }
+    requires { ⌜ length (switchRecs (now leaders) (now heads) (now bits) (now offs) (settings .dynamic) (t .arg) d) ≡ k + 1 ⌝ }
+    requires { ⌜ t .count + k + length (newLinesRecs (now leaders) (now heads) (now opens) (now offs) (now tags) settings (t .arg) (t .lines)) ≤ t .capacity ⌝ }
+    ensures { λ _. ⌜ Wrote (now (index .entry)) (now (index .exit)) (spliced (recordsOf (now (index .entry))) (t .at) (t .count) (switchRecs (now (leaders .entry)) (now (heads .entry)) (now (bits .entry)) (now (offs .entry)) (settings .dynamic) (t .arg) d) (newLinesRecs (now (leaders .entry)) (now (heads .entry)) (now (opens .entry)) (now (offs .entry)) (now (tags .entry)) settings (t .arg) (t .lines))) ⌝ }
 {
     let dynamic = settings.dynamic;
-    records::open_gap(index, p, n, k);
-    buckets::put_switch(index, p, leaders, heads, sizes, bits, offs, dynamic, a as u16, d);
-    lines::put_new_lines(index, n + k, leaders, heads, sizes, opens, offs, tags, settings, a, number);
+    records::open_gap(index, t.at, t.count, k);
+    buckets::put_switch(index, t.at, leaders, heads, sizes, bits, offs, dynamic, t.arg as u16, d);
+    lines::put_new_lines(index, t.count + k, leaders, heads, sizes, opens, offs, tags, settings, t.arg, t.lines);
 }
 
-// The record at place p of n becomes the dead table for argument a, where there is room.
-fn expand_dead(index: &mut [u8], capacity: usize, n: usize, p: usize, zeros: &[u32], opens: &[u8], offs: &[u32], lines: u32, a: u32) -> Expanded
+// The table t becomes dead, where there is room.
+fn expand_dead(index: &mut [u8], t: OnDemand, zeros: &[u32], opens: &[u8], offs: &[u32]) -> Expanded
     requires { ⌜ (length (now zeros) ≤ 1024) × (length (now opens) ≡ 32 * length (now zeros)) × (length (now offs) ≡ length (now zeros)) ⌝ }
-    requires { ⌜ (1 ≤ a) × (a ≤ 32) × (p < n) × (n ≤ capacity) × (capacity ≤ length (recordsOf (now index))) × (capacity ≤ 65535) ⌝ }
-    ensures { λ r. ⌜ r ≡ answerFor capacity (n + length (deadRecs (now (zeros .entry)) (now (opens .entry)) (now (offs .entry)) a) - 1) lines ⌝ }
-    ensures { λ r. ⌜ Expands r (now (index .entry)) (now (index .exit)) p n (deadRecs (now (zeros .entry)) (now (opens .entry)) (now (offs .entry)) a) [] ⌝ }
+    requires { ⌜ Placed t 32 (now index) ⌝ }
+    ensures { λ r. ⌜ Expansion r t (now (index .entry)) (now (index .exit)) (deadRecs (now (zeros .entry)) (now (opens .entry)) (now (offs .entry)) (t .arg)) [] 0 ⌝ }
 {
-    let more = later_tables::dead_room(zeros, opens, a) - 1;
-    let size = n + more;
-    if capacity < size {
+    let more = later_tables::dead_room(zeros, opens, t.arg) - 1;
+    let size = t.count + more;
+    if t.capacity < size {
         return Expanded::NoRoom;
     }
-    write_dead(index, n, p, more, zeros, opens, offs, a);
-    Expanded::Stored { count: size, lines }
+    records::open_gap(index, t.at, t.count, more);
+    later_tables::put_dead(index, t.at, zeros, opens, offs, t.arg);
+    Expanded::Stored {
+        count: size,
+        lines: t.lines,
+    }
 }
 
 // The distance of the first new line from line l, which has so many lines before it: a fresh one's, 1, grown by (lines before) - (own line) - 1.
@@ -109,12 +104,10 @@ fn first_distance(l: u32, lines: u32) -> u32
     records::pointer::distance(records::pointer::grown(fresh, by))
 }
 
-// The record at place p of n, in line l of lines, becomes the switch on argument a, where there is room for it and its lines.
+// The table t becomes the switch, where there is room for it and its lines.
 fn expand_switch(
     index: &mut [u8],
-    capacity: usize,
-    n: usize,
-    p: usize,
+    t: OnDemand,
     leaders: &[u32],
     heads: &[u32],
     sizes: &[u32],
@@ -123,44 +116,34 @@ fn expand_switch(
     offs: &[u32],
     tags: &[u8],
     settings: Settings,
-    l: u32,
-    lines: u32,
-    a: u32,
 ) -> Expanded
-    requires { ⌜ (length (now leaders) ≤ 1024) × (length (now heads) ≡ length (now leaders)) × (length (now bits) ≡ length (now leaders)) × (length (now opens) ≡ 32 * length (now leaders)) × (length (now offs) ≡ length (now leaders)) × (length (now tags) ≡ length (now leaders)) ⌝ }
-    requires { ⌜ now sizes ≡ sizesTo (now leaders) (length (now leaders)) ⌝ }
-    requires { ⌜ (1 ≤ a) × (a ≤ settings .arity) × (settings .arity ≤ 32) × (l < lines) × (lines ≤ 65535) ⌝ }
-    requires { ⌜ (p < n) × (n ≤ capacity) × (capacity ≤ length (recordsOf (now index))) × (capacity ≤ 65535) ⌝ }
-    ensures { λ r. ⌜ r ≡ answerFor capacity (n + length (switchRecs (now (leaders .entry)) (now (heads .entry)) (now (bits .entry)) (now (offs .entry)) (settings .dynamic) a (lines - l)) + length (newLinesRecs (now (leaders .entry)) (now (heads .entry)) (now (opens .entry)) (now (offs .entry)) (now (tags .entry)) settings a lines) - 1) (lines + linesMade (now (leaders .entry)) (now (heads .entry)) (settings .dynamic)) ⌝ }
-    ensures { λ r. ⌜ Expands r (now (index .entry)) (now (index .exit)) p n (switchRecs (now (leaders .entry)) (now (heads .entry)) (now (bits .entry)) (now (offs .entry)) (settings .dynamic) a (lines - l)) (newLinesRecs (now (leaders .entry)) (now (heads .entry)) (now (opens .entry)) (now (offs .entry)) (now (tags .entry)) settings a lines) ⌝ }
+    requires { ⌜ SwitchColumns (now leaders) (now heads) (now sizes) (now bits) (now opens) (now offs) (now tags) ⌝ }
+    requires { ⌜ Placed t (settings .arity) (now index) ⌝ }
+    requires { ⌜ settings .arity ≤ 32 ⌝ }
+    ensures { λ r. ⌜ Expansion r t (now (index .entry)) (now (index .exit)) (switchRecs (now (leaders .entry)) (now (heads .entry)) (now (bits .entry)) (now (offs .entry)) (settings .dynamic) (t .arg) (t .lines - t .line)) (newLinesRecs (now (leaders .entry)) (now (heads .entry)) (now (opens .entry)) (now (offs .entry)) (now (tags .entry)) settings (t .arg) (t .lines)) (linesMade (now (leaders .entry)) (now (heads .entry)) (settings .dynamic)) ⌝ }
 {
     let dynamic = settings.dynamic;
-    let d = first_distance(l, lines);
-    let k = buckets::switch_room(leaders, heads, bits, offs, dynamic, a as u16, d) - 1;
-    let size = n + k + rooms::new_lines_room(leaders, heads, sizes, opens, settings, a);
-    if capacity < size {
+    let d = first_distance(t.line, t.lines);
+    let k = buckets::switch_room(leaders, heads, bits, offs, dynamic, t.arg as u16, d) - 1;
+    let size = t.count + k + rooms::new_lines_room(leaders, heads, sizes, opens, settings, t.arg);
+    if t.capacity < size {
         return Expanded::NoRoom;
     }
-    write_switch(index, n, p, k, leaders, heads, sizes, bits, opens, offs, tags, settings, a, d, lines);
+    write_switch(index, t, d, k, leaders, heads, sizes, bits, opens, offs, tags, settings);
     let made = count_new_lines(leaders, heads, sizes, dynamic);
     Expanded::Stored {
         count: size,
-        lines: lines + made,
+        lines: t.lines + made,
     }
 }
 
-// The expansion with columns of the line's length. Keys are read once; where some clause is open at argument a the table becomes dead.
+// The expansion with columns of the line's length. Keys are read once; where some clause is open at the table's argument it becomes dead.
 fn expand_line(
     code: &[u8],
     starts: &[u32],
     settings: Settings,
     index: &mut [u8],
-    capacity: usize,
-    n: usize,
-    p: usize,
-    l: u32,
-    lines: u32,
-    a: u32,
+    t: OnDemand,
     offs: &[u32],
     tags: &[u8],
     leaders: &mut [u32],
@@ -170,52 +153,30 @@ fn expand_line(
     bits: &mut [u64],
     opens: &mut [u8],
 ) -> Expanded
-    requires { ⌜ checkCode classOf (settings .arity) (now code) (now starts) ≡ Checked.Passed ⌝ }
-    requires { ⌜ AllKnown (now starts) (now offs) ⌝ }
-    requires { ⌜ (length (now offs) ≤ 1024) × (length (now tags) ≡ length (now offs)) × (length (now leaders) ≡ length (now offs)) × (length (now heads) ≡ length (now offs)) ⌝ }
-    requires { ⌜ (length (now sizes) ≡ length (now offs)) × (length (now zeros) ≡ length (now offs)) × (length (now bits) ≡ length (now offs)) × (length (now opens) ≡ 32 * length (now offs)) ⌝ }
-    requires { ⌜ (1 ≤ a) × (a ≤ settings .arity) × (l < lines) × (lines ≤ 65535) ⌝ }
-    requires { ⌜ (p < n) × (n ≤ capacity) × (capacity ≤ length (recordsOf (now index))) × (capacity ≤ 65535) ⌝ }
-    ensures { λ r. ⌜ r ≡ answerFor capacity (n + length (blockRecs settings (keyOf classOf (recordsOf (now (code .entry))) (now (starts .entry))) (now (offs .entry)) a (lines - l)) + length (moreRecs settings (keyOf classOf (recordsOf (now (code .entry))) (now (starts .entry))) (now (offs .entry)) (now (tags .entry)) a lines) - 1) (lines + moreLines settings (keyOf classOf (recordsOf (now (code .entry))) (now (starts .entry))) (now (offs .entry)) a) ⌝ }
-    ensures { λ r. ⌜ Expands r (now (index .entry)) (now (index .exit)) p n (blockRecs settings (keyOf classOf (recordsOf (now (code .entry))) (now (starts .entry))) (now (offs .entry)) a (lines - l)) (moreRecs settings (keyOf classOf (recordsOf (now (code .entry))) (now (starts .entry))) (now (offs .entry)) (now (tags .entry)) a lines) ⌝ }
+    requires { ⌜ Expandable t settings (now code) (now starts) (now index) (now offs) (now tags) ⌝ }
+    requires { ⌜ (length (now leaders) ≡ length (now offs)) × (length (now heads) ≡ length (now offs)) × (length (now sizes) ≡ length (now offs)) ⌝ }
+    requires { ⌜ (length (now zeros) ≡ length (now offs)) × (length (now bits) ≡ length (now offs)) × (length (now opens) ≡ 32 * length (now offs)) ⌝ }
+    ensures { λ r. ⌜ LineExpansion r t settings (now (code .entry)) (now (starts .entry)) (now (index .entry)) (now (index .exit)) (now (offs .entry)) (now (tags .entry)) ⌝ }
 {
-    columns::fill_columns(code, starts, settings.arity, offs, a, leaders, heads, sizes, zeros, bits, opens);
-    if later_tables::any_open(zeros, opens, 0, a) {
-        return expand_dead(index, capacity, n, p, zeros, opens, offs, lines, a);
+    columns::fill_columns(code, starts, settings.arity, offs, t.arg, leaders, heads, sizes, zeros, bits, opens);
+    if later_tables::any_open(zeros, opens, 0, t.arg) {
+        return expand_dead(index, t, zeros, opens, offs);
     }
-    expand_switch(index, capacity, n, p, leaders, heads, sizes, bits, opens, offs, tags, settings, l, lines, a)
+    expand_switch(index, t, leaders, heads, sizes, bits, opens, offs, tags, settings)
 }
 
-// The expansion with columns of 1,024 clauses, of which it takes as many as the line has.
-fn expand_parts(
-    code: &[u8],
-    starts: &[u32],
-    settings: Settings,
-    index: &mut [u8],
-    capacity: usize,
-    n: usize,
-    p: usize,
-    l: u32,
-    lines: u32,
-    a: u32,
-    offs: &[u32],
-    tags: &[u8],
-    leaders: &mut [u32],
-    heads: &mut [u32],
-    sizes: &mut [u32],
-    zeros: &mut [u32],
-    bits: &mut [u64],
-    opens: &mut [u8],
-) -> Expanded
-    requires { ⌜ checkCode classOf (settings .arity) (now code) (now starts) ≡ Checked.Passed ⌝ }
-    requires { ⌜ AllKnown (now starts) (now offs) ⌝ }
-    requires { ⌜ (length (now offs) ≤ 1024) × (length (now tags) ≡ length (now offs)) × (length (now leaders) ≡ 1024) × (length (now heads) ≡ 1024) ⌝ }
-    requires { ⌜ (length (now sizes) ≡ 1024) × (length (now zeros) ≡ 1024) × (length (now bits) ≡ 1024) × (length (now opens) ≡ 32768) ⌝ }
-    requires { ⌜ (1 ≤ a) × (a ≤ settings .arity) × (l < lines) × (lines ≤ 65535) ⌝ }
-    requires { ⌜ (p < n) × (n ≤ capacity) × (capacity ≤ length (recordsOf (now index))) × (capacity ≤ 65535) ⌝ }
-    ensures { λ r. ⌜ r ≡ answerFor capacity (n + length (blockRecs settings (keyOf classOf (recordsOf (now (code .entry))) (now (starts .entry))) (now (offs .entry)) a (lines - l)) + length (moreRecs settings (keyOf classOf (recordsOf (now (code .entry))) (now (starts .entry))) (now (offs .entry)) (now (tags .entry)) a lines) - 1) (lines + moreLines settings (keyOf classOf (recordsOf (now (code .entry))) (now (starts .entry))) (now (offs .entry)) a) ⌝ }
-    ensures { λ r. ⌜ Expands r (now (index .entry)) (now (index .exit)) p n (blockRecs settings (keyOf classOf (recordsOf (now (code .entry))) (now (starts .entry))) (now (offs .entry)) a (lines - l)) (moreRecs settings (keyOf classOf (recordsOf (now (code .entry))) (now (starts .entry))) (now (offs .entry)) (now (tags .entry)) a lines) ⌝ }
+// Expands the table t of the line whose offsets and tags are given: it becomes the switch on its argument or, where some clause is open
+// there, dead. The size is known before anything is written; where it exceeds the capacity nothing is.
+pub fn indices_of_arg(code: &[u8], starts: &[u32], settings: Settings, index: &mut [u8], t: OnDemand, offs: &[u32], tags: &[u8]) -> Expanded
+    requires { ⌜ Expandable t settings (now code) (now starts) (now index) (now offs) (now tags) ⌝ }
+    ensures { λ r. ⌜ LineExpansion r t settings (now (code .entry)) (now (starts .entry)) (now (index .entry)) (now (index .exit)) (now (offs .entry)) (now (tags .entry)) ⌝ }
 {
+    let mut leaders = [0u32; 1024];
+    let mut heads = [0u32; 1024];
+    let mut sizes = [0u32; 1024];
+    let mut zeros = [0u32; 1024];
+    let mut bits = [0u64; 1024];
+    let mut opens = [0u8; 32768];
     let m = offs.len();
     let rows = 32 * m;
     expand_line(
@@ -223,12 +184,7 @@ fn expand_parts(
         starts,
         settings,
         index,
-        capacity,
-        n,
-        p,
-        l,
-        lines,
-        a,
+        t,
         offs,
         tags,
         &mut leaders[..m],
@@ -237,57 +193,5 @@ fn expand_parts(
         &mut zeros[..m],
         &mut bits[..m],
         &mut opens[..rows],
-    )
-}
-
-// Expands the on-demand record at place p of n, for argument a in line l of lines, whose offsets and tags are given: it becomes the switch
-// on a or, where some clause is open there, dead. The size is known before anything is written; where it exceeds the capacity nothing is.
-pub fn indices_of_arg(
-    code: &[u8],
-    starts: &[u32],
-    settings: Settings,
-    index: &mut [u8],
-    capacity: usize,
-    n: usize,
-    p: usize,
-    l: u32,
-    lines: u32,
-    a: u32,
-    offs: &[u32],
-    tags: &[u8],
-) -> Expanded
-    requires { ⌜ checkCode classOf (settings .arity) (now code) (now starts) ≡ Checked.Passed ⌝ }
-    requires { ⌜ AllKnown (now starts) (now offs) ⌝ }
-    requires { ⌜ (length (now offs) ≤ 1024) × (length (now tags) ≡ length (now offs)) ⌝ }
-    requires { ⌜ (1 ≤ a) × (a ≤ settings .arity) × (l < lines) × (lines ≤ 65535) ⌝ }
-    requires { ⌜ (p < n) × (n ≤ capacity) × (capacity ≤ length (recordsOf (now index))) × (capacity ≤ 65535) ⌝ }
-    ensures { λ r. ⌜ r ≡ answerFor capacity (n + length (blockRecs settings (keyOf classOf (recordsOf (now (code .entry))) (now (starts .entry))) (now (offs .entry)) a (lines - l)) + length (moreRecs settings (keyOf classOf (recordsOf (now (code .entry))) (now (starts .entry))) (now (offs .entry)) (now (tags .entry)) a lines) - 1) (lines + moreLines settings (keyOf classOf (recordsOf (now (code .entry))) (now (starts .entry))) (now (offs .entry)) a) ⌝ }
-    ensures { λ r. ⌜ Expands r (now (index .entry)) (now (index .exit)) p n (blockRecs settings (keyOf classOf (recordsOf (now (code .entry))) (now (starts .entry))) (now (offs .entry)) a (lines - l)) (moreRecs settings (keyOf classOf (recordsOf (now (code .entry))) (now (starts .entry))) (now (offs .entry)) (now (tags .entry)) a lines) ⌝ }
-{
-    let mut leaders = [0u32; 1024];
-    let mut heads = [0u32; 1024];
-    let mut sizes = [0u32; 1024];
-    let mut zeros = [0u32; 1024];
-    let mut bits = [0u64; 1024];
-    let mut opens = [0u8; 32768];
-    expand_parts(
-        code,
-        starts,
-        settings,
-        index,
-        capacity,
-        n,
-        p,
-        l,
-        lines,
-        a,
-        offs,
-        tags,
-        &mut leaders,
-        &mut heads,
-        &mut sizes,
-        &mut zeros,
-        &mut bits,
-        &mut opens,
     )
 }

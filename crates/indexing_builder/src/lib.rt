@@ -2,21 +2,23 @@
 // Port of scryer-prolog's compute_indices (indexing.rs) and indices_of_arg (indexing_scan.rs).
 pub mod expansion;
 
+use crate::expansion::OnDemand;
 use indexing_iter::Checked;
 use indexing_iter::Settings;
 use indexing_iter::checks;
 
 ghost use mathlib.Core.Path.{_≡_};
 ghost use mathlib.Core.Bool.{cond};
-ghost use Prim.Native.Nat.{_+_, _-_, _*_, _≤_};
+ghost use Prim.Native.Nat.{_*_, _≤_};
 ghost use lib.ListN.{length};
 ghost use Rattle.records.specs.Records.{recordsOf};
 ghost use Rattle.indexing_iter.specs.Classes.{classOf};
 ghost use Rattle.indexing_iter.specs.Checks.{checkBuild};
-ghost use Rattle.indexing.specs.Columns.{sizesTo, switchRecs, newLinesRecs, seedRecs};
+ghost use Rattle.indexing.specs.Columns.{switchRecs, newLinesRecs, seedRecs};
 ghost use Rattle.indexing.specs.Builder.{capacityOf, buildCall};
 ghost use Rattle.indexing_builder.specs.Answer.{builtOf};
-ghost use Rattle.indexing_builder.specs.Building.{answerBy, Builds};
+ghost use Rattle.indexing_builder.specs.Building.{Building};
+ghost use Rattle.indexing_builder.specs.Expansion.{SwitchColumns};
 
 // What the builder answers: the index's record count and the variable offset, or a refusal's number.
 pub enum BuildAnswer {
@@ -46,7 +48,6 @@ fn variable_offset(skip: bool) -> u32
 // on-demand record, which is the second one, and the lines from 1 on.
 fn write_index(
     index: &mut [u8],
-    capacity: usize,
     leaders: &[u32],
     heads: &[u32],
     sizes: &[u32],
@@ -58,26 +59,30 @@ fn write_index(
     settings: Settings,
     c: u32,
 ) -> BuildAnswer
-    requires { ⌜ (length (now leaders) ≤ 1024) × (length (now heads) ≡ length (now leaders)) × (length (now zeros) ≡ length (now leaders)) × (length (now bits) ≡ length (now leaders)) × (length (now opens) ≡ 32 * length (now leaders)) × (length (now offs) ≡ length (now leaders)) × (length (now tags) ≡ length (now leaders)) ⌝ }
-    requires { ⌜ now sizes ≡ sizesTo (now leaders) (length (now leaders)) ⌝ }
-    requires { ⌜ (1 ≤ c) × (c ≤ settings .arity) × (settings .arity ≤ 32) × (capacity ≤ length (recordsOf (now index))) × (capacity ≤ 65535) ⌝ }
-    ensures { λ r. ⌜ r ≡ answerBy capacity (length (seedRecs (now (zeros .entry)) (now (opens .entry)) (now (offs .entry)) (now (tags .entry)) settings c) + length (switchRecs (now (leaders .entry)) (now (heads .entry)) (now (bits .entry)) (now (offs .entry)) (settings .dynamic) c 1) + length (newLinesRecs (now (leaders .entry)) (now (heads .entry)) (now (opens .entry)) (now (offs .entry)) (now (tags .entry)) settings c 1) - 1) (settings .skip) ⌝ }
-    ensures { λ r. ⌜ Builds r (now (index .entry)) (now (index .exit)) (seedRecs (now (zeros .entry)) (now (opens .entry)) (now (offs .entry)) (now (tags .entry)) settings c) (switchRecs (now (leaders .entry)) (now (heads .entry)) (now (bits .entry)) (now (offs .entry)) (settings .dynamic) c 1) (newLinesRecs (now (leaders .entry)) (now (heads .entry)) (now (opens .entry)) (now (offs .entry)) (now (tags .entry)) settings c 1) ⌝ }
+    requires { ⌜ SwitchColumns (now leaders) (now heads) (now sizes) (now bits) (now opens) (now offs) (now tags) ⌝ }
+    requires { ⌜ length (now zeros) ≡ length (now leaders) ⌝ }
+    requires { ⌜ (1 ≤ c) × (c ≤ settings .arity) × (settings .arity ≤ 32) ⌝ }
+    ensures { λ r. ⌜ Building r (settings .skip) (now (index .entry)) (now (index .exit)) (seedRecs (now (zeros .entry)) (now (opens .entry)) (now (offs .entry)) (now (tags .entry)) settings c) (switchRecs (now (leaders .entry)) (now (heads .entry)) (now (bits .entry)) (now (offs .entry)) (settings .dynamic) c 1) (newLinesRecs (now (leaders .entry)) (now (heads .entry)) (now (opens .entry)) (now (offs .entry)) (now (tags .entry)) settings c 1) ⌝ }
 {
-    let dynamic = settings.dynamic;
-    let place = 1;
+    let room = capacity(index);
     let n = index_writer::rooms::seed_room(zeros, opens, settings, c);
-    let k = index_writer::buckets::switch_room(leaders, heads, bits, offs, dynamic, c as u16, 1) - 1;
+    let k = index_writer::buckets::switch_room(leaders, heads, bits, offs, settings.dynamic, c as u16, 1) - 1;
     let size = n + k + index_writer::rooms::new_lines_room(leaders, heads, sizes, opens, settings, c);
-    if capacity < size {
+    if room < size {
         return BuildAnswer::Refused(9);
     }
     index_writer::lines::put_seed(index, zeros, opens, offs, tags, settings, c);
-    expansion::write_switch(index, n, place, k, leaders, heads, sizes, bits, opens, offs, tags, settings, c, 1, 1);
-    BuildAnswer::Done {
-        count: size,
-        variable: variable_offset(settings.skip),
-    }
+    let table = OnDemand {
+        arg: c,
+        at: 1,
+        count: n,
+        line: 0,
+        lines: 1,
+        capacity: room,
+    };
+    expansion::write_switch(index, table, 1, k, leaders, heads, sizes, bits, opens, offs, tags, settings);
+    let variable = variable_offset(settings.skip);
+    BuildAnswer::Done { count: size, variable }
 }
 
 // Builds the index of checked code, with columns for as many clauses as there are.
@@ -103,31 +108,23 @@ fn build_line(
 {
     index_writer::columns::start_choices(starts, offs, tags);
     index_writer::columns::fill_columns(code, starts, settings.arity, offs, c, leaders, heads, sizes, zeros, bits, opens);
-    let room = capacity(index);
-    write_index(index, room, leaders, heads, sizes, zeros, bits, opens, offs, tags, settings, c)
+    write_index(index, leaders, heads, sizes, zeros, bits, opens, offs, tags, settings, c)
 }
 
-// Builds the index of checked code, with columns of 1,024 clauses, of which it takes as many as there are.
-fn build_parts(
-    code: &[u8],
-    starts: &[u32],
-    settings: Settings,
-    c: u32,
-    index: &mut [u8],
-    offs: &mut [u32],
-    tags: &mut [u8],
-    leaders: &mut [u32],
-    heads: &mut [u32],
-    sizes: &mut [u32],
-    zeros: &mut [u32],
-    bits: &mut [u64],
-    opens: &mut [u8],
-) -> BuildAnswer
+// Builds the index of checked code: of columns for 1,024 clauses it takes as much as there are clauses.
+fn build_checked(code: &[u8], starts: &[u32], settings: Settings, c: u32, index: &mut [u8]) -> BuildAnswer
     requires { ⌜ checkBuild classOf (settings .arity) c (now code) (now starts) ≡ Checked.Passed ⌝ }
-    requires { ⌜ (length (now starts) ≤ 1024) × (length (now offs) ≡ 1024) × (length (now tags) ≡ 1024) × (length (now leaders) ≡ 1024) × (length (now heads) ≡ 1024) ⌝ }
-    requires { ⌜ (length (now sizes) ≡ 1024) × (length (now zeros) ≡ 1024) × (length (now bits) ≡ 1024) × (length (now opens) ≡ 32768) ⌝ }
+    requires { ⌜ length (now starts) ≤ 1024 ⌝ }
     ensures { λ r. ⌜ builtOf r (now (index .exit)) ≡ buildCall classOf (now (code .entry)) (now (starts .entry)) settings c (now (index .entry)) ⌝ }
 {
+    let mut offs = [0u32; 1024];
+    let mut tags = [0u8; 1024];
+    let mut leaders = [0u32; 1024];
+    let mut heads = [0u32; 1024];
+    let mut sizes = [0u32; 1024];
+    let mut zeros = [0u32; 1024];
+    let mut bits = [0u64; 1024];
+    let mut opens = [0u8; 32768];
     let m = starts.len();
     let rows = 32 * m;
     build_line(
@@ -144,36 +141,6 @@ fn build_parts(
         &mut zeros[..m],
         &mut bits[..m],
         &mut opens[..rows],
-    )
-}
-
-// Builds the index of checked code.
-fn build_checked(code: &[u8], starts: &[u32], settings: Settings, c: u32, index: &mut [u8]) -> BuildAnswer
-    requires { ⌜ checkBuild classOf (settings .arity) c (now code) (now starts) ≡ Checked.Passed ⌝ }
-    ensures { λ r. ⌜ builtOf r (now (index .exit)) ≡ buildCall classOf (now (code .entry)) (now (starts .entry)) settings c (now (index .entry)) ⌝ }
-{
-    let mut offs = [0u32; 1024];
-    let mut tags = [0u8; 1024];
-    let mut leaders = [0u32; 1024];
-    let mut heads = [0u32; 1024];
-    let mut sizes = [0u32; 1024];
-    let mut zeros = [0u32; 1024];
-    let mut bits = [0u64; 1024];
-    let mut opens = [0u8; 32768];
-    build_parts(
-        code,
-        starts,
-        settings,
-        c,
-        index,
-        &mut offs,
-        &mut tags,
-        &mut leaders,
-        &mut heads,
-        &mut sizes,
-        &mut zeros,
-        &mut bits,
-        &mut opens,
     )
 }
 

@@ -2,6 +2,7 @@
 use crate::Walking;
 use indexing_iter::Settings;
 use indexing_builder::expansion::Expanded;
+use indexing_builder::expansion::OnDemand;
 
 ghost use mathlib.Core.Path.{_≡_};
 ghost use lib.ListN.{length, take, getD};
@@ -54,8 +55,15 @@ fn store_line(code: &[u8], starts: &[u32], settings: Settings, index: &mut [u8],
     ensures { λ r. ⌜ WentBound (now (code .entry)) (now (starts .entry)) settings (now (index .entry)) w a (now (index .exit)) r ⌝ }
 {
     index_writer::columns::read_choices(index, q, m, list, tags);
-    let capacity = indexing_builder::capacity(index);
-    let x = indexing_builder::expansion::indices_of_arg(code, starts, settings, index, capacity, w.count, w.at, w.line, w.lines, a, list, tags);
+    let table = OnDemand {
+        arg: a,
+        at: w.at,
+        count: w.count,
+        line: w.line,
+        lines: w.lines,
+        capacity: indexing_builder::capacity(index),
+    };
+    let x = indexing_builder::expansion::indices_of_arg(code, starts, settings, index, table, list, tags);
     let Expanded::Stored { count, lines } = x else {
         return unstored_from(w);
     };

@@ -10,19 +10,16 @@ use Rattle.indexing_builder.proofs.build_line.Statement.{statement}
 use Rattle.indexing_builder.proofs.build_line.Tie as tie
 use Rattle.indexing_builder.proofs.build_line.Reads as reads
 use Rattle.indexing_builder.proofs.build_line.Lts as lts
-use Rattle.indexing_builder.proofs.capacity.Reads as capacity-reads
 use Rattle.index_writer.proofs.columns.fill_columns.Reads as fill-columns-reads
 use Rattle.index_writer.proofs.columns.start_choices.Reads as start-choices-reads
 use Rattle.indexing_builder.proofs.write_index.Reads as write-index-reads
 
--- src/lib.rt:116:5
 start-choices-requires : tie.Need-start-choices-requires
 start-choices-requires c κs =
     let s = c .before .before .before .before .before .before .before .before .before .before .before .before .before in
     let a = s .args in
     (omega (arith, s), starts-below classOf (a .settings .arity) (a .code .now) (a .starts .now) (checked (a .code .now) (a .starts .now) (a .settings) (a .c) (s .pre .0)))
 
--- src/lib.rt:117:5
 fill-columns-requires : tie.Need-fill-columns-requires
 fill-columns-requires c κs =
     let s = c .before .before .before .before .before .before .before .before .before .before .before .before .before .before .before .before .before .before .before .before .before .before .before .before .before in
@@ -33,67 +30,53 @@ fill-columns-requires c κs =
       (omega (arith, s, o .kept), omega (arith, s, o .kept)),
     )))
 
--- src/lib.rt:118:9
-capacity-requires : tie.Need-capacity-requires
-capacity-requires c κs = search needs
-
--- src/lib.rt:119:5
 write-index-requires : tie.Need-write-index-requires
 write-index-requires c κs =
-    let s = c .before .before .before .before .before .before .before .before .before .before .before .before .before .before .before .before .before .before .before .before .before .before .before .before .before .before .before .before .before .before .before .before .before .before .before .before .before .before .before .before .before .before .before .before .before .before .before .before .before in
+    let s = c .before .before .before .before .before .before .before .before .before .before .before .before .before .before .before .before .before .before .before .before .before .before .before .before .before .before .before .before .before .before .before .before .before .before .before .before .before .before .before .before .before .before .before .before .before .before .before in
     let a = s .args in
-    let o = c .before .before .before .before .before .before .before .before .before .before .before .before .before .before .before .before .before .before .before .before .before .before .before .before .before .before .before .before .before .before .before .before .before .before .before .start-choices in
-    let f = c .before .before .before .before .before .before .before .before .before .before .before .before .before .before .before .before .before .before .before .before .before .before .before .fill-columns in
-    (omega (arith, s, o .kept, f .kept), (f .ensures .sizes-are, omega (arith, above (a .code .now) (a .starts .now) (a .settings) (a .c) (s .pre .0), below (a .code .now) (a .starts .now) (a .settings) (a .c) (s .pre .0), small (a .code .now) (a .starts .now) (a .settings) (a .c) (s .pre .0), c .before .before .before .before .before .before .before .before .before .capacity)))
+    let o = c .before .before .before .before .before .before .before .before .before .before .before .before .before .before .before .before .before .before .before .before .before .before .before .before .before .before .before .before .before .before .before .before .before .start-choices .kept in
+    let f = c .before .before .before .before .before .before .before .before .before .before .before .before .before .before .before .before .before .before .before .before .before .fill-columns in
+    let k = f .kept in
+    (record { counts = omega (arith, s, o, k); sizes-are = f .ensures .sizes-are },
+    (omega (arith, s, k), (above (a .code .now) (a .starts .now) (a .settings) (a .c) (s .pre .0), below (a .code .now) (a .starts .now) (a .settings) (a .c) (s .pre .0), small (a .code .now) (a .starts .now) (a .settings) (a .c) (s .pre .0))))
 
--- src/lib.rt:96:1
 same-length : tie.Need-same-length
 same-length c = search needs
 
--- src/lib.rt:96:1
 same-length-2 : tie.Need-same-length-2
-same-length-2 c = omega (arith, c .before .before .before .before .before .before .before .before .before .before .before .before .before .before .before .before .before .before .before .before .before .before .before .before .before .before .before .before .before .before .before .before .before .before .before .before .before .before .start-choices .kept)
+same-length-2 c = omega (arith, c .before .before .before .before .before .before .before .before .before .before .before .before .before .before .before .before .before .before .before .before .before .before .before .before .before .before .before .before .before .before .before .before .before .before .before .before .start-choices .kept)
 
--- src/lib.rt:96:1
 same-length-3 : tie.Need-same-length-3
-same-length-3 c = omega (arith, c .before .before .before .before .before .before .before .before .before .before .before .before .before .before .before .before .before .before .before .before .before .before .before .before .before .before .before .before .before .before .before .before .before .before .before .before .before .before .start-choices .kept)
+same-length-3 c = omega (arith, c .before .before .before .before .before .before .before .before .before .before .before .before .before .before .before .before .before .before .before .before .before .before .before .before .before .before .before .before .before .before .before .before .before .before .before .before .start-choices .kept)
 
--- src/lib.rt:96:1
 same-length-4 : tie.Need-same-length-4
 same-length-4 c = search needs
 
--- src/lib.rt:96:1
 same-length-5 : tie.Need-same-length-5
 same-length-5 c = search needs
 
--- src/lib.rt:96:1
 same-length-6 : tie.Need-same-length-6
 same-length-6 c = search needs
 
--- src/lib.rt:96:1
 same-length-7 : tie.Need-same-length-7
 same-length-7 c = search needs
 
--- src/lib.rt:96:1
 same-length-8 : tie.Need-same-length-8
 same-length-8 c = search needs
 
--- src/lib.rt:96:1
 same-length-9 : tie.Need-same-length-9
 same-length-9 c = search needs
 
--- src/lib.rt:96:1
 returns : tie.Need-returns
 returns c =
-    let s = c .before .before .before .before .before .before .before .before .before .before .before .before .before .before .before .before .before .before .before .before .before .before .before .before .before .before .before .before .before .before .before .before .before .before .before .before .before .before .before .before .before .before .before .before .before .before .before .before .before .before .before .before in
+    let s = c .before .before .before .before .before .before .before .before .before .before .before .before .before .before .before .before .before .before .before .before .before .before .before .before .before .before .before .before .before .before .before .before .before .before .before .before .before .before .before .before .before .before .before .before .before .before .before .before .before .before in
     let a = s .args in
-    let o = c .before .before .before .before .before .before .before .before .before .before .before .before .before .before .before .before .before .before .before .before .before .before .before .before .before .before .before .before .before .before .before .before .before .before .before .before .before .before .start-choices in
-    let f = c .before .before .before .before .before .before .before .before .before .before .before .before .before .before .before .before .before .before .before .before .before .before .before .before .before .before .fill-columns in
+    let o = c .before .before .before .before .before .before .before .before .before .before .before .before .before .before .before .before .before .before .before .before .before .before .before .before .before .before .before .before .before .before .before .before .before .before .before .before .start-choices in
+    let f = c .before .before .before .before .before .before .before .before .before .before .before .before .before .before .before .before .before .before .before .before .before .before .before .before .fill-columns in
     let w = c .before .before .write-index in
-    built-by (a .code .now) (a .starts .now) (a .settings) (a .c) (s .pre .0) (o .last .1 .0) (o .last .1 .1 .0)
-    (f .last .1 .1 .1 .1 .1 .0) (f .last .1 .1 .1 .1 .1 .1 .0) (f .last .1 .1 .1 .1 .1 .1 .1 .0) (f .last .1 .1 .1 .1 .1 .1 .1 .1 .0) (f .last .1 .1 .1 .1 .1 .1 .1 .1 .1 .0) (f .last .1 .1 .1 .1 .1 .1 .1 .1 .1 .1 .0)
-    (o .ensures .0) (o .ensures .1) (f .ensures) (a .index .now) (w .last .0) (c .before .before .before .before .before .before .before .before .before .before .before .before .capacity .result) (w .result)
-    (λ i. c .before .before .before .before .before .before .before .before .before .before .before .before .before .before .before .before .before .before .before .before .before .before .before .before .before .before .before .before .before .before .before .before .before .before .before .before .before .before .before .before .before .before .before .before .before .before .before .before .before .slice-known .given i .fits) (λ i. c .slice-known18 .given i .fits) (c .before .before .before .before .before .before .before .before .before .before .before .before .capacity .ensures .0) (w .ensures .0) (w .ensures .1)
+    built-by (a .code .now) (a .starts .now) (a .settings) (a .c) (s .pre .0)
+    (o .ensures .0) (o .ensures .1) (f .ensures) (a .index .now) (w .last .0) (w .result)
+    (λ i. c .before .before .before .before .before .before .before .before .before .before .before .before .before .before .before .before .before .before .before .before .before .before .before .before .before .before .before .before .before .before .before .before .before .before .before .before .before .before .before .before .before .before .before .before .before .before .before .slice-known .given i .fits) (λ i. c .slice-known18 .given i .fits) (w .ensures)
 
 pub build-line-spec : {M : Type 1} → statement M
 build-line-spec =
@@ -101,7 +84,6 @@ build-line-spec =
     (tie.spec
     start-choices-requires
     fill-columns-requires
-    capacity-requires
     write-index-requires
     same-length
     same-length-2

@@ -8,17 +8,14 @@ use Rattle.indexing_builder.proofs.capacity.Reads as reads
 use Rattle.indexing_builder.proofs.capacity.Lts as lts
 use Rattle.records.proofs.capacity.Reads as capacity-reads
 
--- src/lib.rt:37:9
 capacity-requires : tie.Need-capacity-requires
 capacity-requires c κs = search needs
 
--- src/lib.rt:39:9
 returns : tie.Need-returns
 returns c =
     let b = c .before .before .before .args .index .now in
     (capacity-many b (c .before .capacity .result) (c .before .capacity .ensures) (c .if1 .taken), omega (arith, c .before .capacity, c .if1))
 
--- src/lib.rt:33:1
 returns-2 : tie.Need-returns-2
 returns-2 c =
     let b = c .before .before .before .args .index .now in

@@ -1,7 +1,10 @@
 -- `compute_indices` hands a refusal on, and builds where the checks passed. Assumes nothing.
-use mathlib.Core.Path.{sym, _∙_}
+use mathlib.Core.Path.{_≡_, sym, _∙_}
 use native.Mathlib.Omega.{arith}
-use Rattle.indexing_builder.proofs.BuilderLaws.{below, small, refused-by}
+use Rattle.indexing_iter.specs.Classes.{classOf}
+use Rattle.indexing_iter.specs.declared.Checked.{Checked}
+use Rattle.indexing_iter.specs.Checks.{checkBuild}
+use Rattle.indexing_builder.proofs.BuilderLaws.{below, small, few, refused-by}
 use borrow.Author.Needs.{needs}
 use Rattle.indexing_builder.proofs.compute_indices.Statement.{statement}
 use Rattle.indexing_builder.proofs.compute_indices.Tie as tie
@@ -11,44 +14,40 @@ use Rattle.indexing_builder.proofs.build_checked.Reads as build-checked
 use Rattle.indexing_iter.proofs.checks.check_build.Reads as check-build-reads
 use Rattle.indexing_iter.proofs.checks.number_of.Reads as number-of-reads
 
--- src/lib.rt:197:9
+passed : (c : tie.After-enum-told) → checkBuild classOf (c .before .before .before .before .before .before .args .settings .arity) (c .before .before .before .before .before .before .args .c) (c .before .before .before .before .before .before .args .code .now) (c .before .before .before .before .before .before .args .starts .now) ≡ Checked.Passed
+passed c = sym (c .before .before .check-build .ensures) ∙ c .enum-told .given .1
+
 check-build-requires : tie.Need-check-build-requires
 check-build-requires c κs = search needs
 
 enum-told : tie.Need-enum-told
 enum-told c = search needs
 
--- src/lib.rt:199:37
 enum-told-2 : tie.Need-enum-told-2
 enum-told-2 c = search needs
 
--- src/lib.rt:199:37
 number-of-requires : tie.Need-number-of-requires
 number-of-requires c κs = search needs
 
--- src/lib.rt:199:9
 returns : tie.Need-returns
 returns c =
     let a = c .before .before .before .before .before .before .before .args in
     refused-by (a .code .now) (a .starts .now) (a .settings) (a .c) (a .index .now) (c .before .before .before .check-build .result) _ (c .number-of .result)
     (c .before .before .before .check-build .ensures) (c .before .enum-told2 .given .1) (c .number-of .ensures)
 
--- src/lib.rt:201:43
 cast-build-checked : tie.Need-cast-build-checked
 cast-build-checked c =
     let a = c .before .before .before .before .before .before .args in
-    let e = sym (c .before .before .check-build .ensures) ∙ c .enum-told .given .1 in
-    omega (arith, below (a .code .now) (a .starts .now) (a .settings) (a .c) e, small (a .code .now) (a .starts .now) (a .settings) (a .c) e)
+    omega (arith, below (a .code .now) (a .starts .now) (a .settings) (a .c) (passed c), small (a .code .now) (a .starts .now) (a .settings) (a .c) (passed c))
 
--- src/lib.rt:201:5
 build-checked-requires : tie.Need-build-checked-requires
-build-checked-requires c κs = sym (c .before .before .before .check-build .ensures) ∙ c .before .enum-told .given .1
+build-checked-requires c κs =
+    let a = c .before .before .before .before .before .before .before .args in
+    (passed (c .before), few (a .code .now) (a .starts .now) (a .settings) (a .c) (passed (c .before)))
 
--- src/lib.rt:194:1
 same-length : tie.Need-same-length
 same-length c = search needs
 
--- src/lib.rt:194:1
 returns-2 : tie.Need-returns-2
 returns-2 c = search needs
 

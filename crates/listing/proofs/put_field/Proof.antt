@@ -14,23 +14,18 @@ use Rattle.listing.proofs.put_field.Reads as reads
 use Rattle.listing.proofs.put_field.Lts as lts
 use Rattle.listing.proofs.put_number.Reads as put-number-reads
 
--- src/lib.rt:39:16
 sub-last : tie.Need-sub-last
 sub-last c = search needs
 
--- src/lib.rt:40:5
 slice-write-text : tie.Need-slice-write-text
 slice-write-text c = search needs
 
--- src/lib.rt:41:5
 put-number-requires : tie.Need-put-number-requires
 put-number-requires c κs = let a = c .before .before .args in (omega (arith, c .before .before), omega (arith, c .before .before, length-set (a .text .now) (a .end - 1) (a .after)))
 
--- src/lib.rt:34:1
 same-length : tie.Need-same-length
 same-length c = let a = c .before .before .before .before .before .args in c .before .text .given ∙ length-set (a .text .now) (a .end - 1) (a .after)
 
--- src/lib.rt:34:1
 returns : tie.Need-returns
 returns c =
     let s = c .before .before .before .before .before in

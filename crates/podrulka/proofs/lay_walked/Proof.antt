@@ -8,63 +8,48 @@ use Rattle.podrulka.proofs.lay_walked.Lts as lts
 use Rattle.podrulka.proofs.lay.Reads as lay-reads
 use Rattle.podrulka.proofs.mark_of.Reads as mark-of-reads
 
--- src/lib.rt:89:30
 enum-known-a : tie.Need-enum-known-a
 enum-known-a c = search needs
 
--- src/lib.rt:90:17
 mark-of-requires : tie.Need-mark-of-requires
 mark-of-requires c κs = search needs
 
--- src/lib.rt:91:33
 cast-t9 : tie.Need-cast-t9
 cast-t9 c = search needs
 
--- src/lib.rt:91:48
 cast-t10 : tie.Need-cast-t10
 cast-t10 c = search needs
 
--- src/lib.rt:91:79
 cast-t12 : tie.Need-cast-t12
 cast-t12 c = search needs
 
--- src/lib.rt:92:17
 slice-aggregate-lay : tie.Need-slice-aggregate-lay
 slice-aggregate-lay c = search needs
 
--- src/lib.rt:92:13
 lay-requires : tie.Need-lay-requires
 lay-requires c κs = search needs
 
--- src/lib.rt:95:29
 enum-known-a-2 : tie.Need-enum-known-a-2
 enum-known-a-2 c = search needs
 
--- src/lib.rt:96:27
 cast-t19 : tie.Need-cast-t19
 cast-t19 c = search needs
 
--- src/lib.rt:97:17
 slice-aggregate-lay-2 : tie.Need-slice-aggregate-lay-2
 slice-aggregate-lay-2 c = search needs
 
--- src/lib.rt:97:13
 lay-requires-2 : tie.Need-lay-requires-2
 lay-requires-2 c κs = search needs
 
--- src/lib.rt:84:1
 same-length : tie.Need-same-length
 same-length c = search needs
 
--- src/lib.rt:84:1
 returns : tie.Need-returns
 returns c = rw (c .before .before .before .before .before .before .before .before .before .before .a .given .1, ← c .before .before .before .before .before .before .before .before .mark-of .ensures) (refl, c .before .before .lay .ensures)
 
--- src/lib.rt:84:1
 same-length-2 : tie.Need-same-length-2
 same-length-2 c = search needs
 
--- src/lib.rt:84:1
 returns-2 : tie.Need-returns-2
 returns-2 c = rw (c .before .before .before .before .before .before .a2 .given .1) (refl, c .before .before .lay2 .ensures)
 

@@ -13,27 +13,21 @@ use Rattle.indexing_builder.proofs.compute_indices.Reads as compute-indices-rea
 use Rattle.podrulka.proofs.lay_built.Reads as lay-built-reads
 use Rattle.podrulka.proofs.settings_by.Reads as settings-by-reads
 
--- src/lib.rt:130:9
 settings-by-requires : tie.Need-settings-by-requires
 settings-by-requires c κs = search needs
 
--- src/lib.rt:131:9
 compute-indices-requires : tie.Need-compute-indices-requires
 compute-indices-requires c κs = search needs
 
--- src/lib.rt:132:5
 lay-built-requires : tie.Need-lay-built-requires
 lay-built-requires c κs = search needs
 
--- src/lib.rt:115:1
 same-length : tie.Need-same-length
 same-length c = search needs
 
--- src/lib.rt:115:1
 same-length-2 : tie.Need-same-length-2
 same-length-2 c = search needs
 
--- src/lib.rt:115:1
 returns : tie.Need-returns
 returns c = 
     let a = c .before .before .before .before .before .before .before .before .before .before .before .before .before .args in

@@ -13,31 +13,24 @@ use Rattle.indexing_walk.proofs.switch_on_term.Reads as switch-on-term-reads
 use Rattle.podrulka.proofs.lay_walked.Reads as lay-walked-reads
 use Rattle.podrulka.proofs.settings_by.Reads as settings-by-reads
 
--- src/lib.rt:155:9
 settings-by-requires : tie.Need-settings-by-requires
 settings-by-requires c κs = search needs
 
--- src/lib.rt:156:9
 switch-on-term-requires : tie.Need-switch-on-term-requires
 switch-on-term-requires c κs = search needs
 
--- src/lib.rt:157:5
 lay-walked-requires : tie.Need-lay-walked-requires
 lay-walked-requires c κs = search needs
 
--- src/lib.rt:137:1
 same-length : tie.Need-same-length
 same-length c = search needs
 
--- src/lib.rt:137:1
 same-length-2 : tie.Need-same-length-2
 same-length-2 c = search needs
 
--- src/lib.rt:137:1
 same-length-3 : tie.Need-same-length-3
 same-length-3 c = search needs
 
--- src/lib.rt:137:1
 returns : tie.Need-returns
 returns c = 
     let a = c .before .before .before .before .before .before .before .before .before .before .before .before .before .before .before .before .before .before .args in

@@ -9,23 +9,18 @@ use Rattle.indexing_scan.proofs.witness.witness.Reads as witness-reads
 use Rattle.podrulka.proofs.lay_witnessed.Reads as lay-witnessed-reads
 use Rattle.podrulka.proofs.settings_by.Reads as settings-by-reads
 
--- src/lib.rt:167:9
 settings-by-requires : tie.Need-settings-by-requires
 settings-by-requires c κs = search needs
 
--- src/lib.rt:168:9
 witness-requires : tie.Need-witness-requires
 witness-requires c κs = search needs
 
--- src/lib.rt:169:5
 lay-witnessed-requires : tie.Need-lay-witnessed-requires
 lay-witnessed-requires c κs = search needs
 
--- src/lib.rt:161:1
 same-length : tie.Need-same-length
 same-length c = search needs
 
--- src/lib.rt:161:1
 returns : tie.Need-returns
 returns c = 
     let a = c .before .before .before .before .before .before .before .before .before .before .args in

@@ -8,23 +8,18 @@ use Rattle.podrulka.proofs.settings_by.Reads as reads
 use Rattle.podrulka.proofs.settings_by.Lts as lts
 use Rattle.podrulka.proofs.flag.Reads as flag-reads
 
--- src/lib.rt:35:18
 flag-requires : tie.Need-flag-requires
 flag-requires c κs = search needs
 
--- src/lib.rt:36:21
 flag-requires-2 : tie.Need-flag-requires-2
 flag-requires-2 c κs = search needs
 
--- src/lib.rt:37:22
 flag-requires-3 : tie.Need-flag-requires-3
 flag-requires-3 c κs = search needs
 
--- src/lib.rt:38:15
 flag-requires-4 : tie.Need-flag-requires-4
 flag-requires-4 c κs = search needs
 
--- src/lib.rt:29:1
 returns : tie.Need-returns
 unfolding settingsBy
 returns c = rw (c .before .before .before .flag .ensures, c .before .before .flag2 .ensures, c .before .flag3 .ensures, c .flag4 .ensures) refl

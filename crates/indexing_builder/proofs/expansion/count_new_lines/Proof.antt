@@ -9,27 +9,21 @@ use Rattle.indexing_builder.proofs.expansion.count_new_lines.Lts as lts
 use Rattle.index_writer.proofs.buckets.count_lines.Reads as count-lines-reads
 use Rattle.index_writer.proofs.buckets.list_lines.Reads as list-lines-reads
 
--- src/expansion.rt:36:9
 list-lines-requires : tie.Need-list-lines-requires
 list-lines-requires c κs = search needs
 
--- src/expansion.rt:37:9
 count-lines-requires : tie.Need-count-lines-requires
 count-lines-requires c κs = search needs
 
--- src/expansion.rt:38:9
 count-lines-requires-2 : tie.Need-count-lines-requires-2
 count-lines-requires-2 c κs = search needs
 
--- src/expansion.rt:39:5
 add-result : tie.Need-add-result
 add-result c = search needs
 
--- src/expansion.rt:39:5
 add-result-2 : tie.Need-add-result-2
 add-result-2 c = search needs
 
--- src/expansion.rt:30:1
 returns : tie.Need-returns
 unfolding linesMade
 returns c = (omega arith, omega arith)

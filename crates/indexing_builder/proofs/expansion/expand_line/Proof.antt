@@ -1,9 +1,8 @@
 -- `expansion::expand_line` reads the keys, and goes by whether some clause is open. Assumes nothing.
 use mathlib.Core.Path.{sym, _∙_}
+use Prim.Native.Nat.{_≤_}
 use native.Mathlib.Omega.{arith}
-use Rattle.records.specs.Records.{recordsOf}
 use Rattle.indexing_iter.specs.Classes.{classOf}
-use Rattle.indexing_iter.specs.Clauses.{keyOf}
 use Rattle.indexing_iter.proofs.KeyLaws.{code-ok}
 use Rattle.indexing_builder.proofs.ExpansionLaws.{switch-expanded, dead-expanded}
 use borrow.Author.Needs.{needs}
@@ -12,117 +11,91 @@ use Rattle.indexing_builder.proofs.expansion.expand_line.Tie as tie
 use Rattle.indexing_builder.proofs.expansion.expand_line.Reads as reads
 use Rattle.indexing_builder.proofs.expansion.expand_line.Lts as lts
 use Rattle.index_writer.proofs.columns.fill_columns.Reads as fill-columns-reads
+use Rattle.index_writer.proofs.later_tables.any_open.Reads as any-open-reads
 use Rattle.indexing_builder.proofs.expansion.expand_dead.Reads as expand-dead-reads
 use Rattle.indexing_builder.proofs.expansion.expand_switch.Reads as expand-switch-reads
-use Rattle.index_writer.proofs.later_tables.any_open.Reads as any-open-reads
 
--- src/expansion.rt:171:5
+arity-32 : (s : tie.Start) → s .args .settings .arity ≤ 32
+arity-32 s = code-ok classOf (s .args .settings .arity) (s .args .code .now) (s .args .starts .now) (s .pre .0 .checked) .arity-to
+
 fill-columns-requires : tie.Need-fill-columns-requires
 fill-columns-requires c κs =
     let s = c .before .before .before .before .before .before .before .before .before .before .before .before .before .before .before .before .before in
-    (s .pre .0, (s .pre .1 .0, (omega (arith, s), (omega (arith, s), omega (arith, s)))))
+    (s .pre .0 .checked, (s .pre .0 .known, (omega (arith, s), (omega (arith, s), omega (arith, s)))))
 
--- src/expansion.rt:172:8
 any-open-requires : tie.Need-any-open-requires
 any-open-requires c κs =
     let s = c .before .before .before .before .before .before .before .before .before .before .before .before .before .before .before .before .before .before .before .before .before .before .before .before .before .before .before .before .before .before .before .before in
-    let a = s .args in
-    (omega (arith, s, c .before .before .before .before .before .before .before .before .before .before .before .before .before .before .fill-columns .kept), omega (arith, s, code-ok classOf (a .settings .arity) (a .code .now) (a .starts .now) (s .pre .0) .arity-to))
+    (omega (arith, s, c .before .before .before .before .before .before .before .before .before .before .before .before .before .before .fill-columns .kept), omega (arith, s, arity-32 s))
 
--- src/expansion.rt:173:9
 expand-dead-requires : tie.Need-expand-dead-requires
 expand-dead-requires c κs =
     let s = c .before .before .before .before .before .before .before .before .before .before .before .before .before .before .before .before .before .before .before .before .before .before .before .before .before .before .before .before .before .before .before .before .before .before .before .before .before in
-    let a = s .args in
-    (omega (arith, s, c .before .before .before .before .before .before .before .before .before .before .before .before .before .before .before .before .before .before .before .fill-columns .kept), omega (arith, s, code-ok classOf (a .settings .arity) (a .code .now) (a .starts .now) (s .pre .0) .arity-to))
+    (omega (arith, s, c .before .before .before .before .before .before .before .before .before .before .before .before .before .before .before .before .before .before .before .fill-columns .kept), omega (arith, s, arity-32 s))
 
--- src/expansion.rt:173:9
 same-length : tie.Need-same-length
 same-length c = search needs
 
--- src/expansion.rt:173:9
 same-length-2 : tie.Need-same-length-2
 same-length-2 c = search needs
 
--- src/expansion.rt:173:9
 same-length-3 : tie.Need-same-length-3
 same-length-3 c = search needs
 
--- src/expansion.rt:173:9
 same-length-4 : tie.Need-same-length-4
 same-length-4 c = search needs
 
--- src/expansion.rt:173:9
 same-length-5 : tie.Need-same-length-5
 same-length-5 c = search needs
 
--- src/expansion.rt:173:9
 same-length-6 : tie.Need-same-length-6
 same-length-6 c = search needs
 
--- src/expansion.rt:173:9
 same-length-7 : tie.Need-same-length-7
 same-length-7 c = search needs
 
--- src/expansion.rt:173:9
 returns : tie.Need-returns
 returns c =
-    let s = c .before .before .before .before .before .before .before .before .before .before .before .before .before .before .before .before .before .before .before .before .before .before .before .before .before .before .before .before .before .before .before .before .before .before .before .before .before .before .before .before in
-    let a = s .args in
-    let f = c .before .before .before .before .before .before .before .before .before .before .before .before .before .before .before .before .before .before .before .before .before .before .fill-columns in
+    let a = c .before .before .before .before .before .before .before .before .before .before .before .before .before .before .before .before .before .before .before .before .before .before .before .before .before .before .before .before .before .before .before .before .before .before .before .before .before .before .before .before .args in
     let d = c .before .before .expand-dead in
-    dead-expanded (a .settings) (keyOf classOf (recordsOf (a .code .now)) (a .starts .now)) (a .offs .now) (a .a)
-    (f .last .1 .1 .1 .1 .1 .0) (f .last .1 .1 .1 .1 .1 .1 .0) (f .last .1 .1 .1 .1 .1 .1 .1 .0) (f .last .1 .1 .1 .1 .1 .1 .1 .1 .0) (f .last .1 .1 .1 .1 .1 .1 .1 .1 .1 .0) (f .last .1 .1 .1 .1 .1 .1 .1 .1 .1 .1 .0) (f .ensures)
-    (a .tags .now) (a .capacity) (a .n) (a .p) (a .l) (a .lines) (a .index .now) (d .last .0) (d .result)
-    (sym (c .before .before .before .before .before .before .before .any-open .ensures) ∙ c .before .before .before .before .before .before .if1 .taken) (d .ensures .0) (d .ensures .1)
+    dead-expanded (a .settings) (c .before .before .before .before .before .before .before .before .before .before .before .before .before .before .before .before .before .before .before .before .before .before .fill-columns .ensures) (a .tags .now) (a .t) (a .index .now) (d .last .0) (d .result)
+    (sym (c .before .before .before .before .before .before .before .any-open .ensures) ∙ c .before .before .before .before .before .before .if1 .taken) (d .ensures)
 
--- src/expansion.rt:175:5
 expand-switch-requires : tie.Need-expand-switch-requires
 expand-switch-requires c κs =
     let s = c .before .before .before .before .before .before .before .before .before .before .before .before .before .before .before .before .before .before .before .before .before .before .before .before .before .before .before .before .before .before .before .before .before .before .before .before .before .before .before .before in
-    let a = s .args in
     let f = c .before .before .before .before .before .before .before .before .before .before .before .before .before .before .before .before .before .before .before .before .before .before .fill-columns in
-    (omega (arith, s, f .kept), (f .ensures .sizes-are, (omega (arith, s, code-ok classOf (a .settings .arity) (a .code .now) (a .starts .now) (s .pre .0) .arity-to), omega (arith, s))))
+    let k = f .kept in
+    (record { counts = omega (arith, s, k); sizes-are = f .ensures .sizes-are },
+    (s .pre .0 .placed, arity-32 s))
 
--- src/expansion.rt:142:1
 same-length-8 : tie.Need-same-length-8
 same-length-8 c = search needs
 
--- src/expansion.rt:142:1
 same-length-9 : tie.Need-same-length-9
 same-length-9 c = search needs
 
--- src/expansion.rt:142:1
 same-length-10 : tie.Need-same-length-10
 same-length-10 c = search needs
 
--- src/expansion.rt:142:1
 same-length-11 : tie.Need-same-length-11
 same-length-11 c = search needs
 
--- src/expansion.rt:142:1
 same-length-12 : tie.Need-same-length-12
 same-length-12 c = search needs
 
--- src/expansion.rt:142:1
 same-length-13 : tie.Need-same-length-13
 same-length-13 c = search needs
 
--- src/expansion.rt:142:1
 same-length-14 : tie.Need-same-length-14
 same-length-14 c = search needs
 
--- src/expansion.rt:142:1
 returns-2 : tie.Need-returns-2
 returns-2 c =
-    let s = c .before .before .before .before .before .before .before .before .before .before .before .before .before .before .before .before .before .before .before .before .before .before .before .before .before .before .before .before .before .before .before .before .before .before .before .before .before .before .before .before .before .before .before in
-    let a = s .args in
-    let f = c .before .before .before .before .before .before .before .before .before .before .before .before .before .before .before .before .before .before .before .before .before .before .before .before .before .fill-columns in
+    let a = c .before .before .before .before .before .before .before .before .before .before .before .before .before .before .before .before .before .before .before .before .before .before .before .before .before .before .before .before .before .before .before .before .before .before .before .before .before .before .before .before .before .before .before .args in
     let d = c .before .before .expand-switch in
-    switch-expanded (a .settings) (keyOf classOf (recordsOf (a .code .now)) (a .starts .now)) (a .offs .now) (a .a)
-    (f .last .1 .1 .1 .1 .1 .0) (f .last .1 .1 .1 .1 .1 .1 .0) (f .last .1 .1 .1 .1 .1 .1 .1 .0) (f .last .1 .1 .1 .1 .1 .1 .1 .1 .0) (f .last .1 .1 .1 .1 .1 .1 .1 .1 .1 .0) (f .last .1 .1 .1 .1 .1 .1 .1 .1 .1 .1 .0) (f .ensures)
-    (a .tags .now) (a .capacity) (a .n) (a .p) (a .l) (a .lines) (a .index .now) (d .last .0) (d .result)
-    (sym (c .before .before .before .before .before .before .before .before .before .before .any-open .ensures) ∙ c .before .before .before .before .before .before .before .before .before .if1 .left) (d .ensures .0) (d .ensures .1)
+    switch-expanded (a .settings) (c .before .before .before .before .before .before .before .before .before .before .before .before .before .before .before .before .before .before .before .before .before .before .before .before .before .fill-columns .ensures) (a .tags .now) (a .t) (a .index .now) (d .last .0) (d .result)
+    (sym (c .before .before .before .before .before .before .before .before .before .before .any-open .ensures) ∙ c .before .before .before .before .before .before .before .before .before .if1 .left) (d .ensures)
 
 pub expand-line-spec : {M : Type 1} → statement M
 expand-line-spec =

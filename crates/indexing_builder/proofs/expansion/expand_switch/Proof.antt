@@ -1,7 +1,11 @@
 -- `expansion::expand_switch` compares the size with the capacity, and then writes. Assumes nothing.
-use mathlib.Core.Path.{refl, ap}
-use Prim.Native.Nat.{ℕ, _+_, _-_}
+use mathlib.Core.Path.{_≡_, refl, ap}
+use mathlib.Core.List.{List}
+use Prim.Native.Nat.{ℕ, _+_, _-_, _≤_}
 use native.Mathlib.Omega.{arith}
+use lib.ListN.{length}
+use Rattle.records.specs.declared.Rec.{Rec}
+use Rattle.indexing.specs.Columns.{switchRecs, newLinesRecs}
 use Rattle.indexing_builder.proofs.ExpansionLaws.{answer-none, answer-stored, switch-some}
 use borrow.Author.Needs.{needs}
 use Rattle.indexing_builder.proofs.expansion.expand_switch.Statement.{statement}
@@ -9,91 +13,81 @@ use Rattle.indexing_builder.proofs.expansion.expand_switch.Tie as tie
 use Rattle.indexing_builder.proofs.expansion.expand_switch.Reads as reads
 use Rattle.indexing_builder.proofs.expansion.expand_switch.Lts as lts
 use Rattle.index_writer.proofs.buckets.switch_room.Reads as switch-room-reads
-use Rattle.indexing_builder.proofs.expansion.count_new_lines.Reads as count-new-lines-reads
-use Rattle.indexing_builder.proofs.expansion.write_switch.Reads as write-switch-reads
 use Rattle.index_writer.proofs.rooms.new_lines_room.Reads as new-lines-room-reads
+use Rattle.indexing_builder.proofs.expansion.count_new_lines.Reads as count-new-lines-reads
+use Rattle.indexing_builder.proofs.expansion.first_distance.Reads as first-distance-reads
+use Rattle.indexing_builder.proofs.expansion.write_switch.Reads as write-switch-reads
 
--- src/expansion.rt:127:13
+-- the switch, d the distance of its first line, and the new lines
+module _ (s : tie.Start) where
+  abbrev switch : ℕ → List Rec
+  switch d = switchRecs (s .args .leaders .now) (s .args .heads .now) (s .args .bits .now) (s .args .offs .now) (s .args .settings .dynamic) (s .args .t .arg) d
+
+  abbrev lines : List Rec
+  lines = newLinesRecs (s .args .leaders .now) (s .args .heads .now) (s .args .opens .now) (s .args .offs .now) (s .args .tags .now) (s .args .settings) (s .args .t .arg) (s .args .t .lines)
+
+  switch-one : (d : ℕ) → 1 ≤ length (switch d)
+  switch-one = switch-some (s .args .leaders .now) (s .args .heads .now) (s .args .bits .now) (s .args .offs .now) (s .args .settings .dynamic) (s .args .t .arg)
+
+-- their rooms
+rooms : (c : tie.After-new-lines-room)
+    → (c .before .before .switch-room .result ≡ length (switch (c .before .before .before .before .before .before .before .before .before .before .before .before .before) (c .before .before .before .before .first-distance .result))) × (c .new-lines-room .result ≡ length (lines (c .before .before .before .before .before .before .before .before .before .before .before .before .before)))
+      × (1 ≤ length (switch (c .before .before .before .before .before .before .before .before .before .before .before .before .before) (c .before .before .before .before .first-distance .result)))
+rooms c =
+    let a = c .before .before .before .before .before .before .before .before .before .before .before .before .before .args in
+    (c .before .before .switch-room .ensures .0, c .new-lines-room .ensures .0 (a .offs .now) (a .tags .now) (a .t .lines), switch-one (c .before .before .before .before .before .before .before .before .before .before .before .before .before) _)
+
 first-distance-requires : tie.Need-first-distance-requires
 first-distance-requires c κs = search needs
 
--- src/expansion.rt:128:71
 cast-switch-room : tie.Need-cast-switch-room
 cast-switch-room c = search needs
 
--- src/expansion.rt:128:13
 switch-room-requires : tie.Need-switch-room-requires
 switch-room-requires c κs = search needs
 
--- src/expansion.rt:128:13
 sub-k : tie.Need-sub-k
-sub-k c =
-    let d = c .before .first-distance in
-    let a = c .before .before .before .before .before .before .before .before .before .before .args in
-    omega (arith, c .switch-room .ensures .0, switch-some (a .leaders .now) (a .heads .now) (a .bits .now) (a .offs .now) (a .settings .dynamic) (a .a) (d .result))
+sub-k c = omega (arith, c .switch-room .ensures .0, switch-one (c .before .before .before .before .before .before .before .before .before .before .before) (c .before .before .first-distance .result))
 
--- src/expansion.rt:129:16
 add-size : tie.Need-add-size
 add-size c = search needs
 
--- src/expansion.rt:129:24
 new-lines-room-requires : tie.Need-new-lines-room-requires
 new-lines-room-requires c κs = search needs
 
--- src/expansion.rt:129:16
 add-size-2 : tie.Need-add-size-2
 add-size-2 c = search needs
 
--- src/expansion.rt:131:9
 returns : tie.Need-returns
-returns c =
-    let d = c .before .before .before .first-distance in
-    let a = c .before .before .before .before .before .before .before .before .before .before .before .before .args in
-    let l = c .before .before .switch-room .ensures .0 in
-    let k = c .before .new-lines-room .ensures .0 (a .offs .now) (a .tags .now) (a .lines) in
-    let m = switch-some (a .leaders .now) (a .heads .now) (a .bits .now) (a .offs .now) (a .settings .dynamic) (a .a) (d .result) in
-    rw (← d .ensures) (answer-none (a .capacity) _ _ (omega (arith, l, k, m, c .if1)), refl)
+returns c = rw (← c .before .before .before .before .before .before .first-distance .ensures) record { answer = answer-none (c .before .before .before .before .before .before .before .before .before .before .before .before .before .before .before .args .t .capacity) _ _ (omega (arith, rooms (c .before .before), c .if1)); leaves = refl }
 
--- src/expansion.rt:133:5
 write-switch-requires : tie.Need-write-switch-requires
 write-switch-requires c κs =
-    let s = c .before .before .before .before .before .before .before .before .before .before .before .before .before in
-    let d = c .before .before .before .before .first-distance in
-    let a = s .args in
-    let l = c .before .before .before .switch-room .ensures .0 in
-    let k = c .before .before .new-lines-room .ensures .0 (a .offs .now) (a .tags .now) (a .lines) in
-    let m = switch-some (a .leaders .now) (a .heads .now) (a .bits .now) (a .offs .now) (a .settings .dynamic) (a .a) (d .result) in
-    (s .pre .0, (s .pre .1 .0, (omega (arith, s), (omega (arith, l, m), omega (arith, s, l, m, k, c .before .if1)))))
+    let s = c .before .before .before .before .before .before .before .before .before .before .before .before .before .before .before .before in
+    let r = rooms (c .before .before .before) in
+    (s .pre .0, (s .pre .1 .0, (omega (arith, s, c .before .before .before .before .before .before .before .first-distance .ensures), (omega (arith, r), omega (arith, r, c .before .if1)))))
 
--- src/expansion.rt:134:9
 count-new-lines-requires : tie.Need-count-new-lines-requires
 count-new-lines-requires c κs =
-    let s = c .before .before .before .before .before .before .before .before .before .before .before .before .before .before .before .before in
-    (omega (arith, s), s .pre .1 .0)
+    let s = c .before .before .before .before .before .before .before .before .before .before .before .before .before .before .before .before .before .before .before in
+    (omega (arith, s), s .pre .0 .sizes-are)
 
--- src/expansion.rt:137:16
-add-t28 : tie.Need-add-t28
-add-t28 c =
-    let s = c .before .before .before .before .before .before .before .before .before .before .before .before .before .before .before .before .before in
-    omega (arith, s, c .count-new-lines)
+add-t23 : tie.Need-add-t23
+add-t23 c = omega (arith, c .before .before .before .before .before .before .before .before .before .before .before .before .before .before .before .before .before .before .before .before .before, c .before .count-new-lines)
 
--- src/expansion.rt:102:1
 same-length : tie.Need-same-length
 same-length c = search needs
 
--- src/expansion.rt:102:1
 returns-2 : tie.Need-returns-2
 returns-2 c =
-    let s = c .before .before .before .before .before .before .before .before .before .before .before .before .before .before .before .before .before in
-    let d = c .before .before .before .before .before .before .before .before .first-distance in
-    let a = s .args in
-    let l = c .before .before .before .before .before .before .before .switch-room .ensures .0 in
-    let k = c .before .before .before .before .before .before .new-lines-room .ensures .0 (a .offs .now) (a .tags .now) (a .lines) in
-    let m = switch-some (a .leaders .now) (a .heads .now) (a .bits .now) (a .offs .now) (a .settings .dynamic) (a .a) (d .result) in
-    let n = c .count-new-lines .ensures .0 in
-    rw (← d .ensures) (answer-stored (a .capacity) (a .n + (c .before .before .before .before .before .before .before .switch-room .result - 1) + c .before .before .before .before .before .before .new-lines-room .result) (a .lines + c .count-new-lines .result)
-      (omega (arith, l, m, k)) (ap (λ (x : ℕ). a .lines + x) n) (c .before .before .before .before .before .if1 .left),
-    c .before .before .before .write-switch .ensures)
+    let t = c .before .before .before .before .before .before .before .before .before .before .before .before .before .before .before .before .before .before .before .before .before .args .t in
+    let n = c .before .count-new-lines in
+    rw (← c .before .before .before .before .before .before .before .before .before .before .before .before .first-distance .ensures) record {
+      answer =
+        answer-stored (t .capacity) (t .count + (c .before .before .before .before .before .before .before .before .before .before .switch-room .result - 1) + c .before .before .before .before .before .before .before .before .new-lines-room .result) (t .lines + n .result)
+        (omega (arith, rooms (c .before .before .before .before .before .before .before .before))) (ap (λ (x : ℕ). t .lines + x) (n .ensures .0)) (c .before .before .before .before .before .before .if1 .left);
+      leaves = c .before .before .before .before .write-switch .ensures
+    }
 
 pub expand-switch-spec : {M : Type 1} → statement M
 expand-switch-spec =
@@ -109,6 +103,6 @@ expand-switch-spec =
     returns
     write-switch-requires
     count-new-lines-requires
-    add-t28
+    add-t23
     same-length
     returns-2)

@@ -1,50 +1,60 @@
--- `expansion::indices_of_arg` lends its columns. Assumes nothing.
-use mathlib.Core.Path.{refl}
+-- `expansion::indices_of_arg` lends the fronts of its columns. Assumes nothing.
+use native.Mathlib.Omega.{arith}
+use lib.ListN.{length-take}
 use borrow.Author.Needs.{needs}
 use Rattle.indexing_builder.proofs.expansion.indices_of_arg.Statement.{statement}
 use Rattle.indexing_builder.proofs.expansion.indices_of_arg.Tie as tie
 use Rattle.indexing_builder.proofs.expansion.indices_of_arg.Reads as reads
 use Rattle.indexing_builder.proofs.expansion.indices_of_arg.Lts as lts
-use Rattle.indexing_builder.proofs.expansion.expand_parts.Reads as expand-parts-reads
+use Rattle.indexing_builder.proofs.expansion.expand_line.Reads as expand-line-reads
 
--- src/expansion.rt:278:9
-slice-aggregate-expand-parts : tie.Need-slice-aggregate-expand-parts
-slice-aggregate-expand-parts c = search needs
+mul-rows : tie.Need-mul-rows
+mul-rows c = search needs
 
--- src/expansion.rt:279:9
-slice-aggregate-expand-parts-2 : tie.Need-slice-aggregate-expand-parts-2
-slice-aggregate-expand-parts-2 c = search needs
+array-borrow-prefix-leaders : tie.Need-array-borrow-prefix-leaders
+array-borrow-prefix-leaders c = search needs
 
--- src/expansion.rt:280:9
-slice-aggregate-expand-parts-3 : tie.Need-slice-aggregate-expand-parts-3
-slice-aggregate-expand-parts-3 c = search needs
+slice-aggregate-expand-line : tie.Need-slice-aggregate-expand-line
+slice-aggregate-expand-line c = simp length-take (omega arith)
 
--- src/expansion.rt:281:9
-slice-aggregate-expand-parts-4 : tie.Need-slice-aggregate-expand-parts-4
-slice-aggregate-expand-parts-4 c = search needs
+array-borrow-prefix-heads : tie.Need-array-borrow-prefix-heads
+array-borrow-prefix-heads c = search needs
 
--- src/expansion.rt:282:9
-slice-aggregate-expand-parts-5 : tie.Need-slice-aggregate-expand-parts-5
-slice-aggregate-expand-parts-5 c = search needs
+slice-aggregate-expand-line-2 : tie.Need-slice-aggregate-expand-line-2
+slice-aggregate-expand-line-2 c = simp length-take (omega arith)
 
--- src/expansion.rt:283:9
-slice-aggregate-expand-parts-6 : tie.Need-slice-aggregate-expand-parts-6
-slice-aggregate-expand-parts-6 c = search needs
+array-borrow-prefix-sizes : tie.Need-array-borrow-prefix-sizes
+array-borrow-prefix-sizes c = search needs
 
--- src/expansion.rt:265:5
-expand-parts-requires : tie.Need-expand-parts-requires
-expand-parts-requires c κs =
-    let s = c .before .before .before .before .before .before .before .before .before .before .before .before in
-    (s .pre .0, (s .pre .1 .0, (
-      (s .pre .1 .1 .0 .0, s .pre .1 .1 .0 .1, refl, refl),
-      ((refl, refl, refl, refl), (s .pre .1 .1 .1 .0, s .pre .1 .1 .1 .1)),
-    )))
+slice-aggregate-expand-line-3 : tie.Need-slice-aggregate-expand-line-3
+slice-aggregate-expand-line-3 c = simp length-take (omega arith)
 
--- src/expansion.rt:237:1
+array-borrow-prefix-zeros : tie.Need-array-borrow-prefix-zeros
+array-borrow-prefix-zeros c = search needs
+
+slice-aggregate-expand-line-4 : tie.Need-slice-aggregate-expand-line-4
+slice-aggregate-expand-line-4 c = simp length-take (omega arith)
+
+array-borrow-prefix-bits : tie.Need-array-borrow-prefix-bits
+array-borrow-prefix-bits c = search needs
+
+slice-aggregate-expand-line-5 : tie.Need-slice-aggregate-expand-line-5
+slice-aggregate-expand-line-5 c = simp length-take (omega arith)
+
+array-borrow-prefix-opens : tie.Need-array-borrow-prefix-opens
+array-borrow-prefix-opens c = search needs
+
+slice-aggregate-expand-line-6 : tie.Need-slice-aggregate-expand-line-6
+slice-aggregate-expand-line-6 c = simp length-take (omega arith)
+
+expand-line-requires : tie.Need-expand-line-requires
+expand-line-requires c κs =
+    let p = c .before .before .before .before .before .before .before .before .before .before .before .before .pre in
+    (p, (simp length-take (omega arith), simp length-take (omega arith)))
+
 same-length : tie.Need-same-length
 same-length c = search needs
 
--- src/expansion.rt:237:1
 returns : tie.Need-returns
 returns c = search needs
 
@@ -52,12 +62,19 @@ pub indices-of-arg-spec : {M : Type 1} → statement M
 indices-of-arg-spec =
     tie.close
     (tie.spec
-    slice-aggregate-expand-parts
-    slice-aggregate-expand-parts-2
-    slice-aggregate-expand-parts-3
-    slice-aggregate-expand-parts-4
-    slice-aggregate-expand-parts-5
-    slice-aggregate-expand-parts-6
-    expand-parts-requires
+    mul-rows
+    array-borrow-prefix-leaders
+    slice-aggregate-expand-line
+    array-borrow-prefix-heads
+    slice-aggregate-expand-line-2
+    array-borrow-prefix-sizes
+    slice-aggregate-expand-line-3
+    array-borrow-prefix-zeros
+    slice-aggregate-expand-line-4
+    array-borrow-prefix-bits
+    slice-aggregate-expand-line-5
+    array-borrow-prefix-opens
+    slice-aggregate-expand-line-6
+    expand-line-requires
     same-length
     returns)

@@ -1,6 +1,5 @@
 -- `expansion::write_switch` opens the gap, writes the switch into it and the new lines behind all. Assumes nothing.
 use native.Mathlib.Omega.{arith}
-use Rattle.records.proofs.Laws.{length-recordsOf}
 use Rattle.records.proofs.MoveLaws.{splice-steps}
 use Rattle.indexing.specs.Columns.{switchRecs, newLinesRecs}
 use borrow.Author.Needs.{needs}
@@ -12,48 +11,38 @@ use Rattle.index_writer.proofs.buckets.put_switch.Reads as put-switch-reads
 use Rattle.index_writer.proofs.lines.put_new_lines.Reads as put-new-lines-reads
 use Rattle.records.proofs.open_gap.Reads as open-gap-reads
 
--- src/expansion.rt:80:5
 open-gap-requires : tie.Need-open-gap-requires
 open-gap-requires c κs = search needs
 
--- src/expansion.rt:81:79
 cast-put-switch : tie.Need-cast-put-switch
 cast-put-switch c = search needs
 
--- src/expansion.rt:81:5
 put-switch-requires : tie.Need-put-switch-requires
 put-switch-requires c κs =
-    let s = c .before .before .before .before .before .before .before .before .before .before .before .before .before in
-    let a = s .args in
-    (omega (arith, s), (s .pre .1 .0, (omega (arith, s), omega (arith, s, c .before .before .before .open-gap .ensures .count))))
+    let s = c .before .before .before .before .before .before .before .before .before .before .before .before .before .before in
+    (omega (arith, s), (s .pre .0 .sizes-are, (omega (arith, s), omega (arith, s, c .before .before .before .before .open-gap .ensures .count))))
 
--- src/expansion.rt:82:33
 add-put-new-lines : tie.Need-add-put-new-lines
-add-put-new-lines c =
-    let s = c .before .before .before .before .before .before .before .before .before .before .before .before .before .before .before .before .before in
-    omega (arith, s, length-recordsOf (s .args .index .now), s .good)
+add-put-new-lines c = omega (arith, c .before .before .before .before .before .before .before .before .before .before .before .before .before .before .before .before .before .before .before)
 
--- src/expansion.rt:82:5
 put-new-lines-requires : tie.Need-put-new-lines-requires
 put-new-lines-requires c κs =
-    let s = c .before .before .before .before .before .before .before .before .before .before .before .before .before .before .before .before .before in
-    (omega (arith, s), (s .pre .1 .0, (omega (arith, s), omega (arith, s, c .before .before .before .before .before .before .before .open-gap .ensures .count, c .before .before .before .put-switch .ensures .1 .count))))
+    let s = c .before .before .before .before .before .before .before .before .before .before .before .before .before .before .before .before .before .before .before in
+    (omega (arith, s), (s .pre .0 .sizes-are, (omega (arith, s), omega (arith, s, c .before .before .before .before .before .before .before .before .before .open-gap .ensures .count, c .before .before .before .before .put-switch .ensures .1 .count))))
 
--- src/expansion.rt:55:1
 same-length : tie.Need-same-length
 same-length c = search needs
 
--- src/expansion.rt:55:1
 returns : tie.Need-returns
 returns c =
-    let s = c .before .before .before .before .before .before .before .before .before .before .before .before .before .before .before .before .before .before .before .before in
+    let s = c .before .before .before .before .before .before .before .before .before .before .before .before .before .before .before .before .before .before .before .before .before .before in
     let a = s .args in
-    let o = c .before .before .before .before .before .before .before .before .before .before .open-gap in
-    let w = c .before .before .before .before .before .before .put-switch in
+    let o = c .before .before .before .before .before .before .before .before .before .before .before .before .open-gap in
+    let w = c .before .before .before .before .before .before .before .put-switch in
     let v = c .before .before .put-new-lines in
-    splice-steps (a .index .now) (o .last .0) (w .last .0) (v .last .0) (a .p) (a .n) (a .k)
-    (switchRecs (a .leaders .now) (a .heads .now) (a .bits .now) (a .offs .now) (a .settings .dynamic) (a .a) (a .d))
-    (newLinesRecs (a .leaders .now) (a .heads .now) (a .opens .now) (a .offs .now) (a .tags .now) (a .settings) (a .a) (a .number))
+    splice-steps (a .index .now) (o .last .0) (w .last .0) (v .last .0) (a .t .at) (a .t .count) (a .k)
+    (switchRecs (a .leaders .now) (a .heads .now) (a .bits .now) (a .offs .now) (a .settings .dynamic) (a .t .arg) (a .d))
+    (newLinesRecs (a .leaders .now) (a .heads .now) (a .opens .now) (a .offs .now) (a .tags .now) (a .settings) (a .t .arg) (a .t .lines))
     (omega (arith, s)) (omega (arith, s)) (omega (arith, s)) (o .ensures) (w .ensures .1) (v .ensures .1)
 
 pub write-switch-spec : {M : Type 1} → statement M

@@ -36,7 +36,7 @@ grown c =
     let len : length (d .last .1 .1 .1 .0) ≡ length (a .index .now) = search needs in
     grows (due s) list tags (read-offs (due s) (a .q) (a .m) (line .0) (line .1) list (r .ensures .0)) (read-tags (due s) (a .q) (a .m) (line .0) (line .1) tags (r .ensures .1))
     (d .last .1 .1 .1 .0) (λ i. omega (arith, c .before .before .before .before .before .before .before .before .before .before .before .before .before .before .before .before .before .before .slice-known .given i)) (λ i. omega (arith, c .slice-known6 .given i)) len (s .pre .1 .1 .0 .2)
-    (k .result) (k .ensures .0) (d .result) (d .ensures .0) (d .ensures .1)
+    (k .result) (k .ensures .0) (d .result) (d .ensures .answer) (d .ensures .leaves)
 
 read-choices-requires : tie.Need-read-choices-requires
 read-choices-requires c κs =
@@ -57,13 +57,15 @@ indices-of-arg-requires c κs =
     let k = c .before .before .before .capacity .ensures in
     let ll : length list ≡ length (a .list .now) = search needs in
     let lt : length (r .last .1 .1 .1 .1 .0) ≡ length (a .tags .now) = search needs in
-    let x = range-arg (due s) in
-    let n = small (due s .ready) in
     let few = read-count (due s) (a .q) (a .m) (line .0) (line .1) .2 in
     let lens = s .pre .1 .1 .0 in
-    (s .pre .0, (all-known (due s) list (read-offs (due s) (a .q) (a .m) (line .0) (line .1) list (r .ensures .0)),
-    ((omega (arith, ll, lens .0, few), omega (arith, ll, lt, lens .0, lens .1)),
-    ((x .0, x .1, n .3, n .2), (below-count (due s), omega (arith, s .pre .1 .0 .fits, k .0), k .1 .0, k .1 .1)))))
+    record {
+      checked = s .pre .0;
+      known = all-known (due s) list (read-offs (due s) (a .q) (a .m) (line .0) (line .1) list (r .ensures .0));
+      few = omega (arith, ll, lens .0, few);
+      tagged = omega (arith, ll, lt, lens .0, lens .1);
+      placed = omega (arith, range-arg (due s), small (due s .ready), below-count (due s), s .pre .1 .0 .fits, k);
+    }
 
 enum-known-x : tie.Need-enum-known-x
 enum-known-x c = search needs
