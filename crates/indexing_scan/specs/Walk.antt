@@ -156,10 +156,6 @@ module _ (P : Program) where
     abbrev pub answer : Index → Answer
     answer idx = answerFrom (P .arity) 1 idx (line 0)
 
-    -- section 5: the answer of a line of the clauses os, come to by a switch on j, that is not stored
-    abbrev pub freshAnswer : ℕ → List ℕ → Answer
-    freshAnswer j os = answerFrom (P .arity - j) (suc j) [] (unstored os)
-
 -- section 5, the state of a walk: whether expansions are stored, and the index
 pub record State : Type 0 where
   pub storing : Bool
