@@ -18,7 +18,7 @@ use Rattle.indexing_iter.specs.declared.InstructionArg.{InstructionArg}
 use Rattle.indexing_iter.specs.declared.InstructionArg.the-variants.{ArgedHead, ArglessHead, NonHead, Prologue}
 use Rattle.indexing_iter.specs.declared.Checked.{Checked}
 use Rattle.indexing_iter.specs.declared.Checked.the-variants.{Passed, Refused}
-use Rattle.indexing_iter.specs.Classes.{argOfClass}
+use Rattle.indexing_iter.specs.Classes.{argOfClass, instructionArg}
 use Rattle.indexing_iter.specs.Keys.{keyIn, isOpen}
 use Rattle.indexing_iter.specs.Clauses.{endOf, clausesOf, offsetsOf, clauseAt, keyOf, known}
 use Rattle.indexing_iter.specs.Checks.{risingBelow, isBody, hasBody, recordBad, registerBad, registerStep, checkRecords, checkClause, orElse, refuse, checkArity, checkChosen, checkSize, checkStarts, checkClauses, openSomewhere, checkKeyed, checkClausesOf, checkCode, checkBuild}
@@ -46,11 +46,10 @@ rising-last n s i e =
     let none : drop (i + 1) s ≡ [] = drop-of-length-le s past in
     rw (drop-step s i (omega arith), none) refl
 
--- whether the record at i, of a class, is a body record, and whether one after it is
-pub body-step : (cls : ℕ → ℕ) (rs : List Rec) (i end : ℕ) (r : Rec) (class : ℕ) → i < end → end ≤ length rs
-    → r ≡ getD rs i none → class ≡ cls (r .kind) → hasBody cls (slice i end rs) ≡ (isBody (argOfClass class r) || hasBody cls (slice (i + 1) end rs))
+pub body-step : (cls : ℕ → ℕ) (rs : List Rec) (i end : ℕ) → i < end → end ≤ length rs
+    → hasBody cls (slice i end rs) ≡ (isBody (instructionArg cls (getD rs i none)) || hasBody cls (slice (i + 1) end rs))
 unfolding hasBody
-body-step cls rs i end r class h k e q = rw (slice-step rs i end h k, q, e) refl
+body-step cls rs i end h k = rw (slice-step rs i end h k) refl
 
 pub body-none : (cls : ℕ → ℕ) (rs : List Rec) (i end : ℕ) → end ≤ i → hasBody cls (slice i end rs) ≡ false
 unfolding hasBody

@@ -112,8 +112,7 @@ fn has_body(table: &[u8], code: &[u8], start: usize, end: usize) -> bool
 {
     let mut i = start;
     while i < end {
-        let r = records::get(code, i);
-        if is_body(crate::arg_of_class(crate::class_in(table, r.kind), r)) {
+        if is_body(crate::arg_in(table, code, i)) {
             return true;
         }
         i += 1;

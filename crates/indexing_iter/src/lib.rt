@@ -213,6 +213,15 @@ fn arg_of_class(class: u8, r: Rec) -> InstructionArg
     InstructionArg::ArgedHead(r.word, key_of_class(class, r))
 }
 
+// What the code record at place i says of an argument, by a table of classes.
+fn arg_in(table: &[u8], code: &[u8], i: usize) -> InstructionArg
+    requires { ⌜ (length (now table) ≡ 256) × (i < length (recordsOf (now code))) ⌝ }
+    ensures { λ a. ⌜ a ≡ instructionArg (λ op. getD (now (table .entry)) op 0) (getD (recordsOf (now (code .entry))) i none) ⌝ }
+{
+    let r = records::get(code, i);
+    arg_of_class(class_in(table, r.kind), r)
+}
+
 // What the code record at place i says of an argument.
 pub fn extract_index_arg(code: &[u8], i: usize) -> InstructionArg
     requires { ⌜ i < length (recordsOf (now code)) ⌝ }
@@ -271,9 +280,9 @@ fn clear_keys(heads: &mut [u32], bits: &mut [u64], n: usize)
     }
 }
 
-// All keys of the clause at a known offset of checked code, argument by argument, in one pass over its records:
-// sort and arity to heads, the bits to bits.
-pub fn collect_opt_arg_index_keys(
+// All keys of the clause at a known offset of checked code, by a table of classes, in one pass over its records.
+fn collect_keys(
+    table: &[u8],
     code: &[u8],
     starts: &[u32],
     arity: u32,
@@ -281,18 +290,19 @@ pub fn collect_opt_arg_index_keys(
     heads: &mut [u32],
     bits: &mut [u64],
 )
-    requires { ⌜ checkCode classOf arity (now code) (now starts) ≡ Checked.Passed ⌝ }
+    requires { ⌜ checkCode (λ op. getD (now table) op 0) arity (now code) (now starts) ≡ Checked.Passed ⌝ }
     requires { ⌜ known (now starts) offset ≡ true ⌝ }
     requires { ⌜ (arity ≤ length (now heads)) × (arity ≤ length (now bits)) ⌝ }
-    ensures { λ _. ⌜ now (heads .exit) ≡ map headOf (keysOf classOf (recordsOf (now (code .entry))) (now (starts .entry)) offset arity) ++ drop arity (now (heads .entry)) ⌝ }
-    ensures { λ _. ⌜ now (bits .exit) ≡ map bitsOf (keysOf classOf (recordsOf (now (code .entry))) (now (starts .entry)) offset arity) ++ drop arity (now (bits .entry)) ⌝ }
+    requires { ⌜ length (now table) ≡ 256 ⌝ }
+    ensures { λ _. ⌜ now (heads .exit) ≡ map headOf (keysOf (λ op. getD (now (table .entry)) op 0) (recordsOf (now (code .entry))) (now (starts .entry)) offset arity) ++ drop arity (now (heads .entry)) ⌝ }
+    ensures { λ _. ⌜ now (bits .exit) ≡ map bitsOf (keysOf (λ op. getD (now (table .entry)) op 0) (recordsOf (now (code .entry))) (now (starts .entry)) offset arity) ++ drop arity (now (bits .entry)) ⌝ }
 {
     let n = arity as usize;
     clear_keys(heads, bits, n);
     let end = records::capacity(code);
     let mut i = (offset - 1) as usize;
     while i < end {
-        let a = extract_index_arg(code, i);
+        let a = arg_in(table, code, i);
         match a {
             InstructionArg::NonHead => {
                 return;
@@ -307,4 +317,23 @@ pub fn collect_opt_arg_index_keys(
         }
         i += 1;
     }
+}
+
+// All keys of the clause at a known offset of checked code, argument by argument: sort and arity to heads, the bits to bits.
+pub fn collect_opt_arg_index_keys(
+    code: &[u8],
+    starts: &[u32],
+    arity: u32,
+    offset: u32,
+    heads: &mut [u32],
+    bits: &mut [u64],
+)
+    requires { ⌜ checkCode classOf arity (now code) (now starts) ≡ Checked.Passed ⌝ }
+    requires { ⌜ known (now starts) offset ≡ true ⌝ }
+    requires { ⌜ (arity ≤ length (now heads)) × (arity ≤ length (now bits)) ⌝ }
+    ensures { λ _. ⌜ now (heads .exit) ≡ map headOf (keysOf classOf (recordsOf (now (code .entry))) (now (starts .entry)) offset arity) ++ drop arity (now (heads .entry)) ⌝ }
+    ensures { λ _. ⌜ now (bits .exit) ≡ map bitsOf (keysOf classOf (recordsOf (now (code .entry))) (now (starts .entry)) offset arity) ++ drop arity (now (bits .entry)) ⌝ }
+{
+    let table = classes();
+    collect_keys(&table, code, starts, arity, offset, heads, bits);
 }

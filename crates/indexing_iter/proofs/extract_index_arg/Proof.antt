@@ -1,7 +1,6 @@
 -- What the code record at a place says of an argument. Assumes nothing.
-use mathlib.Core.Path.{ap, _∙_}
-use Prim.Native.Nat.{ℕ}
-use Rattle.indexing_iter.specs.Classes.{classOf, argOfClass, instructionArg}
+use Rattle.indexing_iter.specs.Classes.{classOf}
+use Rattle.indexing_iter.proofs.Parts.{said}
 use borrow.Author.Needs.{needs}
 use Rattle.indexing_iter.proofs.extract_index_arg.Statement.{statement}
 use Rattle.indexing_iter.proofs.extract_index_arg.Tie as tie
@@ -21,9 +20,7 @@ arg-of-class-requires : tie.Need-arg-of-class-requires
 arg-of-class-requires c κs = search needs
 
 returns : tie.Need-returns
-returns c =
-    let r = c .before .before .get in
-    c .arg-of-class .ensures ∙ ap (λ (k : ℕ). argOfClass k (r .result)) (c .before .class-of .ensures) ∙ ap (instructionArg classOf) (r .ensures)
+returns c = said classOf _ _ _ _ (c .arg-of-class .ensures) (c .before .class-of .ensures) (c .before .before .get .ensures)
 
 pub extract-index-arg-spec : {M : Type 1} → statement M
 extract-index-arg-spec = tie.close (tie.spec get-requires class-of-requires arg-of-class-requires returns)

@@ -1,6 +1,6 @@
 -- 5 to 7 of a clause: the records left, after the last register, give the answer that the clause gives. Assumes nothing.
 use Prim.Native.Nat.{_-_, _+_}
-use mathlib.Core.Path.{_≡_, _∙_}
+use mathlib.Core.Path.{_≡_}
 use mathlib.Core.Bool.{false}
 use mathlib.Core.Logic.{⊎-elim}
 use lib.Seq.{slice}
@@ -72,7 +72,7 @@ refused-from-requires : tie.Need-refused-from-requires Inv-loop μ-loop
 refused-from-requires c κs = search needs
 
 returns : tie.Need-returns Inv-loop μ-loop
-returns c = c .refused-from .ensures ∙ (rw (c .before .if1 .taken) at (bad (c .before .before)))
+returns c = rw (c .refused-from .ensures) (rw (c .before .if1 .taken) at (bad (c .before .before)))
 
 arg-of-class-requires : tie.Need-arg-of-class-requires Inv-loop μ-loop
 arg-of-class-requires c κs = search needs
@@ -95,8 +95,8 @@ refused-from-requires-2 c κs = search needs
 returns-3 : tie.Need-returns-3 Inv-loop μ-loop
 returns-3 c =
     let seven = c .before in
-    c .refused-from2 .ensures
-    ∙ (rw (seven .before .before .before .a .given .1, ← seven .before .register-bad .ensures, seven .if2 .taken) at (turn (seven .before .before .before .before .before)))
+    rw (c .refused-from2 .ensures)
+    (rw (seven .before .before .before .a .given .1, ← seven .before .register-bad .ensures, seven .if2 .taken) at (turn (seven .before .before .before .before .before)))
 
 enum-told-2 : tie.Need-enum-told-2 Inv-loop μ-loop
 enum-told-2 c = search needs

@@ -13,9 +13,7 @@ use Rattle.indexing_iter.proofs.checks.has_body.Tie as tie
 use Rattle.indexing_iter.proofs.checks.has_body.Reads as reads
 use Rattle.indexing_iter.proofs.checks.has_body.Lts as lts
 use Rattle.indexing_iter.proofs.checks.is_body.Reads as is-body-reads
-use Rattle.indexing_iter.proofs.class_in.Reads as class-in-reads
-use Rattle.indexing_iter.proofs.arg_of_class.Reads as arg-of-class-reads
-use Rattle.records.proofs.get.Reads as get-reads
+use Rattle.indexing_iter.proofs.arg_in.Reads as arg-in-reads
 
 abbrev Inv-loop : tie.InvT-loop
 Inv-loop table code start end i₀ i = hasBody (classIn table) (slice i end (recordsOf code)) ≡ hasBody (classIn table) (slice start end (recordsOf code))
@@ -25,31 +23,25 @@ abbrev μ-loop : tie.MeasureT-loop
 
 -- in a turn: whether the record at i is a body record, and whether one after it is
 turn : (c : tie.After-is-body Inv-loop μ-loop)
-    → let at = c .before .before .before .before .before in
+    → let at = c .before .before .before in
     let a = at .before .before .before .args in
     let rs = recordsOf (a .code .now) in
     let cls = classIn (a .table .now) in
     (c .is-body .result || hasBody cls (slice (at .loop .i + 1) (a .end) rs)) ≡ hasBody cls (slice (a .start) (a .end) rs)
 turn c =
-    let class = c .before .before in
-    let at = class .before .before .before in
+    let at = c .before .before .before in
     let a = at .before .before .before .args in
-    let step =
-    body-step (classIn (a .table .now)) (recordsOf (a .code .now)) (at .loop .i) (a .end) _ _ (class .before .before .loop-test .taken) (search needs)
-    (class .before .get .ensures) (class .class-in .ensures) in
-    rw (step, ← c .before .arg-of-class .ensures, ← c .is-body .ensures) at (at .loop .inv)
+    rw (
+      body-step (classIn (a .table .now)) (recordsOf (a .code .now)) _ _ (c .before .before .loop-test .taken) (search needs),
+      ← c .before .arg-in .ensures,
+      ← c .is-body .ensures,
+    ) at (at .loop .inv)
 
 loop-holds : tie.Need-loop-holds Inv-loop μ-loop
 loop-holds c = search needs
 
-get-requires : tie.Need-get-requires Inv-loop μ-loop
-get-requires c κs = search needs
-
-class-in-requires : tie.Need-class-in-requires Inv-loop μ-loop
-class-in-requires c κs = search needs
-
-arg-of-class-requires : tie.Need-arg-of-class-requires Inv-loop μ-loop
-arg-of-class-requires c κs = search needs
+arg-in-requires : tie.Need-arg-in-requires Inv-loop μ-loop
+arg-in-requires c κs = search needs
 
 is-body-requires : tie.Need-is-body-requires Inv-loop μ-loop
 is-body-requires c κs = search needs
@@ -76,9 +68,7 @@ has-body-spec =
     Inv-loop
     μ-loop
     loop-holds
-    get-requires
-    class-in-requires
-    arg-of-class-requires
+    arg-in-requires
     is-body-requires
     returns
     add-i
