@@ -33,15 +33,10 @@ pub struct Waits {
 fn is_closed(s: Waits) -> bool
     ensures { λ b. ⌜ b ≡ closed s ⌝ }
 {
-    let entries = s.entries;
-    let clause = s.clause;
     let first = s.first;
     let offset = s.offset;
     let lines = s.lines;
-    if entries != 0 {
-        return false;
-    }
-    if clause != 0 {
+    if !steps::is_idle(s) {
         return false;
     }
     if first != 33 {
