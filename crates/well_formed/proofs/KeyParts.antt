@@ -20,10 +20,10 @@ use Rattle.well_formed.specs.Pass.{groupBySort, formOk, sameFields, amon
 use Rattle.well_formed.proofs.PassParts.{group-sort, form-key}
 use Rattle.well_formed.proofs.Turns.{Forms, Behind}
 
-pub among-step : (r q : Rec) (rs : List Rec) (i end : ℕ) → i < end → end ≤ length rs → q ≡ getD rs i none
-    → among r (slice i end rs) ≡ (sameFields r q || among r (slice (i + 1) end rs))
+pub among-step : (r : Rec) (rs : List Rec) (i end : ℕ) → i < end → end ≤ length rs
+    → among r (slice i end rs) ≡ (sameFields r (getD rs i none) || among r (slice (i + 1) end rs))
 unfolding among
-among-step r q rs i end h k e = rw (slice-step rs i end h k, e) refl
+among-step r rs i end h k = rw (slice-step rs i end h k) refl
 
 pub among-none : (r : Rec) (rs : List Rec) (i end : ℕ) → end ≤ i → among r (slice i end rs) ≡ false
 unfolding among

@@ -21,6 +21,7 @@ use Rattle.indexing.specs.Lines.{Line, Index}
 use Rattle.indexing.specs.Reading.{Waiting, readAll, parse}
 use Rattle.well_formed.specs.WellFormed.{wellFormed}
 use Rattle.well_formed.specs.Pass.{oneLine, marked, Marks, nothing, checked}
+use Rattle.well_formed.specs.Chains.{Cleared}
 use Rattle.well_formed.proofs.PassCode.{slice-back}
 use Rattle.well_formed.proofs.PassIs.{pass-is}
 use Rattle.well_formed.proofs.Turns.{turn-of, turn-lines}
@@ -45,11 +46,11 @@ getD-zeros zero o = refl
 getD-zeros (suc n) zero = refl
 getD-zeros (suc n) (suc o) = getD-zeros n o
 
-pub marks-none : (marks : List ℕ) (n i : ℕ) (starts : List ℕ) → marks ≡ replicate n 0 → length starts ≤ i → Marks marks (drop i starts)
+pub marks-none : (marks : List ℕ) (i : ℕ) (starts : List ℕ) → Cleared marks → length starts ≤ i → Marks marks (drop i starts)
 unfolding marked known
-marks-none marks n i starts e h o =
+marks-none marks i starts c h o =
     let f : drop i starts ≡ [] = drop-of-length-le starts h in
-    rw (e, f, getD-zeros n o)
+    rw (f, c o)
 
 pub marks-more : (marks starts : List ℕ) (i j : ℕ) → j + 1 ≡ i → i ≤ length starts → getD starts j 0 + 1 < length marks → Marks marks (drop i starts)
     → Marks (set marks (getD starts j 0 + 1) 1) (drop j starts)

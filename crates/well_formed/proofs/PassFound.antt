@@ -22,7 +22,7 @@ use Rattle.indexing.specs.Lines.{tablesRecs, choiceRec, modeOf, lineRec, record
 use Rattle.indexing.specs.Lists.{any, every}
 use Rattle.indexing.specs.Reading.{Waiting, waiting, readAll}
 use Rattle.well_formed.specs.WellFormed.{risingOk, argsOk, keyOk, keysOk, entryKeys, tagOk, someOk}
-use Rattle.well_formed.specs.Pass.{firstArg, firstOf, firstGroup, least, waits, groupBySort, formOk, tagIn, lineStep, tableStep, switchStep}
+use Rattle.well_formed.specs.Pass.{firstArg, firstOf, firstGroup, least, waits, groupBySort, formOk, tagIn, idle, bare, lineStep, tableStep, switchStep}
 use Rattle.well_formed.specs.Pass.{demandStep, deadStep, entryStep, choiceStep, clauseStep, stepOk, keysOnce, nothing, pass}
 use Rattle.well_formed.proofs.Fine.{args-first, FineTable, Fine}
 use Rattle.well_formed.proofs.PassParts.{and3, front-rises, keys-once}
@@ -73,7 +73,7 @@ module _ (arity : ℕ) (dynamic : Bool) (known : ℕ → Bool) (total : ℕ) whe
 
   choices-pass : (n : ℕ) (cs : List Choice) (ls : Index) → risingOk known n (offs cs) ≡ true → every (tagOk dynamic) cs ≡ true
       → pass arity dynamic known total (from [] [] ls) (map choiceRec cs) ≡ true
-  unfolding pass stepOk choiceStep keysOnce tagIn
+  unfolding pass stepOk idle bare choiceStep keysOnce tagIn
   choices-pass n [] ls e t = refl
   choices-pass n (c ∷ cs) ls e t =
       let x = and3 (leb n (c .offset)) (known (c .offset)) (risingOk known (suc (c .offset)) (offs cs)) e in
@@ -88,7 +88,7 @@ module _ (arity : ℕ) (dynamic : Bool) (known : ℕ → Bool) (total : ℕ) whe
 
   module _ (ts : List Table) (cs : List Choice) (ls : Index) where
     clauses-pass : (n : ℕ) (os : List ℕ) → risingOk known n os ≡ true → pass arity dynamic known total (from ts cs ls) (map deadRec os) ≡ true
-    unfolding pass stepOk clauseStep keysOnce
+    unfolding pass stepOk bare clauseStep keysOnce
     clauses-pass n [] e = refl
     clauses-pass n (o ∷ os) e =
         let x = and3 (leb n o) (known o) (risingOk known (suc o) os) e in
@@ -123,7 +123,7 @@ module _ (arity : ℕ) (dynamic : Bool) (known : ℕ → Bool) (total : ℕ) whe
       table-pass : (t : Table) → leb 1 (argOf t) && (leb (argOf t) arity && argsOk arity (suc (argOf t)) ts) ≡ true → FineTable arity dynamic known ls t
           → FitTable t
           → pass arity dynamic known total (from ts cs ls) (tableRecs t) ≡ true
-      unfolding pass stepOk switchStep demandStep deadStep tableStep keysOnce
+      unfolding pass stepOk idle switchStep demandStep deadStep tableStep keysOnce
       table-pass (switch a es) e f g =
           pass-front (from ts cs ls) (waiting es [] ts cs ls) (rec 2 0 a 0 0) (map entryRec es) (entries-are es g)
           (both (lt-ltb a (least dynamic known ls es) (f .1)) (arg-passes a e)) (keys-once 1 (entryKeys es) (f .0)) (entries-pass 1 es (f .0) g)
@@ -147,7 +147,7 @@ module _ (arity : ℕ) (dynamic : Bool) (known : ℕ → Bool) (total : ℕ) whe
 
     pub lines-pass : (m : ℕ) (ls : Index) → m + length ls ≡ total → Fine arity dynamic known ls → All FitLine ls
         → pass arity dynamic known total nothing (records (modeOf dynamic) m ls) ≡ true
-    unfolding pass stepOk lineStep keysOnce
+    unfolding pass stepOk idle bare lineStep keysOnce
     lines-pass m [] c f g = refl
     lines-pass m (l ∷ ls) c f g =
         let ts : List Table = l .tables in

@@ -17,9 +17,9 @@ use Rattle.indexing.specs.Build.{Program}
 use Rattle.indexing.specs.Lines.{Choice, Index, offs, modeOf, records}
 use Rattle.indexing.specs.Reading.{Waiting, readAll, parse}
 use Rattle.well_formed.specs.WellFormed.{risingOk, linesOk, indexOk, recsOk, wellFormed}
-use Rattle.well_formed.specs.Pass.{firstArg, firstOf, closed, nothing, pass, checked, passes}
+use Rattle.well_formed.specs.Pass.{firstArg, firstOf, waits, idle, closed, nothing, pass, checked, passes}
 use Rattle.well_formed.proofs.Fine.{Fine, lines-fine, fine-lines}
-use Rattle.well_formed.proofs.PassParts.{and5, no-items, no-offsets, no-tables}
+use Rattle.well_formed.proofs.PassParts.{and4, idle-told, no-items, no-offsets, no-tables}
 use Rattle.well_formed.proofs.PassSound.{pass-sound}
 use Rattle.well_formed.proofs.PassFound.{lines-pass}
 use Rattle.well_formed.proofs.Sound.{index-good, fit-lines, recs-same}
@@ -44,26 +44,24 @@ module _ (arity : ℕ) (dynamic : Bool) (known : ℕ → Bool) (small : arity �
   unfolding checked closed
   sound e =
       let w : Waiting = readAll rs nothing in
-      let x = and-true (pass arity dynamic known (length (parse rs)) nothing rs)
-      (eqb (length (w .entries)) 0 && (eqb (firstOf (w .deads)) 0 && (eqb (firstArg (w .tables)) 33
-      && (eqb (firstOf (offs (w .choices))) 0 && ltb 0 (length (w .lines)))))) e in
-      let y = and5 (eqb (length (w .entries)) 0) (eqb (firstOf (w .deads)) 0) (eqb (firstArg (w .tables)) 33) (eqb (firstOf (offs (w .choices))) 0)
-      (ltb 0 (length (w .lines))) (x .1) in
+      let x = and-true (pass arity dynamic known (length (parse rs)) nothing rs) (closed (waits dynamic known w)) e in
+      let y = and4 (idle (waits dynamic known w)) (eqb (firstArg (w .tables)) 33) (eqb (firstOf (offs (w .choices))) 0) (ltb 0 (length (w .lines))) (x .1) in
+      let i = idle-told (waits dynamic known w) (y .0) in
       let S = pass-sound arity dynamic known (length (parse rs)) small (λ o h. good o h .0) rs (x .0) in
-      let es : w .entries ≡ [] = no-items (w .entries) (y .0) in
-      let ds : w .deads ≡ [] = no-offsets known (w .deads) (S .deads) (y .1) in
-      let ts : w .tables ≡ [] = no-tables arity (w .tables) small (S .args) (y .2) in
-      let cs : w .choices ≡ [] = no-choices known (w .choices) (S .rising) (y .3) in
+      let es : w .entries ≡ [] = no-items (w .entries) (i .0) in
+      let ds : w .deads ≡ [] = no-offsets known (w .deads) (S .deads) (i .1) in
+      let ts : w .tables ≡ [] = no-tables arity (w .tables) small (S .args) (y .1) in
+      let cs : w .choices ≡ [] = no-choices known (w .choices) (S .rising) (y .2) in
       let same : rs ≡ records (modeOf dynamic) 0 (parse rs) = rw (es, ds, ts, cs) at (S .same 0 (zero-add (length (parse rs)))) in
       both (ap (λ (qs : List Rec). recsOk qs rs) (sym same) ∙ recs-same rs)
-      (both (y .4) (fine-lines arity dynamic known (parse rs) 0 (parse rs) refl (zero-add (length (parse rs))) (S .lines)))
+      (both (y .3) (fine-lines arity dynamic known (parse rs) 0 (parse rs) refl (zero-add (length (parse rs))) (S .lines)))
 
   -- a predicate of this arity and mode, of which nothing else matters
   abbrev P : Program
   P = record { arity = arity; masked = λ a. false; dynamic = dynamic; extensible = false; nonCounted = false; keyOf = λ o a. None }
 
   found : wellFormed arity dynamic known rs ≡ true → passes arity dynamic known rs ≡ true
-  unfolding checked closed
+  unfolding checked idle closed
   found e =
       let idx : Index = parse rs in
       let x = and-true (recsOk (records (modeOf dynamic) 0 idx) rs) (indexOk arity dynamic known idx) e in

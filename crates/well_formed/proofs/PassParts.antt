@@ -18,12 +18,16 @@ use Rattle.indexing.specs.Lines.{Ptr, ext, int, Entry, Table, argOf, word, entr
 use Rattle.indexing.specs.Lists.{any}
 use Rattle.indexing.specs.Reading.{keyFrom, pointerFrom, entryFrom}
 use Rattle.well_formed.specs.WellFormed.{risingOk, argsOk, keyOk, keysOk, entryKeys}
-use Rattle.well_formed.specs.Pass.{firstArg, firstOf, firstGroup, groupBySort, formOk, rises, once}
+use Rattle.well_formed.specs.Pass.{firstArg, firstOf, firstGroup, groupBySort, formOk, idle, bare, rises, once}
+use Rattle.well_formed.specs.declared.Waits.{Waits}
 
 -- ---- tests joined
 
 pub and3 : (a b c : Bool) → a && (b && c) ≡ true → (a ≡ true) × (b ≡ true) × (c ≡ true)
 and3 a b c e = let x = and-true a (b && c) e in let y = and-true b c (x .1) in (x .0, y .0, y .1)
+
+pub and4 : (a b c d : Bool) → a && (b && (c && d)) ≡ true → (a ≡ true) × (b ≡ true) × (c ≡ true) × (d ≡ true)
+and4 a b c d e = let x = and3 a b (c && d) e in let y = and-true c d (x .2) in (x .0, x .1, y .0, y .1)
 
 pub and5 : (a b c d f : Bool) → a && (b && (c && (d && f))) ≡ true → (a ≡ true) × (b ≡ true) × (c ≡ true) × (d ≡ true) × (f ≡ true)
 and5 a b c d f e = let x = and3 a b (c && (d && f)) e in let y = and3 c d f (x .2) in (x .0, x .1, y .0, y .1, y .2)
@@ -32,16 +36,20 @@ pub and6 : (a b c d f g : Bool) → a && (b && (c && (d && (f && g)))) ≡ true
     → (a ≡ true) × (b ≡ true) × (c ≡ true) × (d ≡ true) × (f ≡ true) × (g ≡ true)
 and6 a b c d f g e = let x = and5 a b c d (f && g) e in let y = and-true f g (x .4) in (x .0, x .1, x .2, x .3, y .0, y .1)
 
-pub and7 : (a b c d f g h : Bool) → a && (b && (c && (d && (f && (g && h))))) ≡ true
-    → (a ≡ true) × (b ≡ true) × (c ≡ true) × (d ≡ true) × (f ≡ true) × (g ≡ true) × (h ≡ true)
-and7 a b c d f g h e = let x = and5 a b c d (f && (g && h)) e in let y = and3 f g h (x .4) in (x .0, x .1, x .2, x .3, y .0, y .1, y .2)
+pub idle-told : (s : Waits) → idle s ≡ true → (eqb (s .entries) 0 ≡ true) × (eqb (s .clause) 0 ≡ true)
+unfolding idle
+idle-told s e = and-true (eqb (s .entries) 0) (eqb (s .clause) 0) e
 
 -- ---- what stands in a record
 
 pub rec-is : (r : Rec) (k s h w l : ℕ) → r .kind ≡ k → r .sub ≡ s → r .half ≡ h → r .word ≡ w → r .long ≡ l → r ≡ rec k s h w l
 rec-is r k s h w l a b c d e = λ i. record { kind = a i; sub = b i; half = c i; word = d i; long = e i }
 
-pub word-back : (w : ℕ) → word (pointerFrom w) ≡ w
+pub bare-told : (r : Rec) → bare r ≡ true → (r .half ≡ 0) × (r .long ≡ 0)
+unfolding bare
+bare-told r e = let x = and-true (eqb (r .half) 0) (eqb (r .long) 0) e in (eqb-true (x .0), eqb-true (x .1))
+
+word-back : (w : ℕ) → word (pointerFrom w) ≡ w
 word-back w = go (ltb w 0x8000_0000) refl
   where
     go : (b : Bool) → ltb w 0x8000_0000 ≡ b → word (cond b (ext w) (int (w - 0x8000_0000))) ≡ w

@@ -18,10 +18,10 @@ use Rattle.indexing.specs.Lines.{modeOf, records}
 use Rattle.indexing.specs.Lists.{every}
 use Rattle.indexing.specs.Reading.{keyFrom, entryFrom, Waiting, waiting, read, readAll}
 use Rattle.well_formed.specs.WellFormed.{risingOk, argsOk, entryKeys, tagOk, someOk}
-use Rattle.well_formed.specs.Pass.{firstArg, firstOf, firstGroup, least, waits, groupBySort, formOk, rises, tagIn, lineStep, tableStep, switchStep}
+use Rattle.well_formed.specs.Pass.{firstArg, firstOf, firstGroup, least, waits, groupBySort, formOk, rises, tagIn, idle, bare, lineStep, tableStep, switchStep}
 use Rattle.well_formed.specs.Pass.{demandStep, deadStep, entryStep, choiceStep, clauseStep, stepOk, once, keysOnce, nothing, pass}
 use Rattle.well_formed.proofs.Fine.{args-above, FineTable, Fine}
-use Rattle.well_formed.proofs.PassParts.{and3, and5, and6, and7, rec-is, group-sort, form-key, entry-back, no-items, no-offsets, no-tables}
+use Rattle.well_formed.proofs.PassParts.{and3, and4, and5, and6, idle-told, rec-is, bare-told, group-sort, form-key, entry-back, no-items, no-offsets, no-tables}
 use Rattle.well_formed.proofs.PassParts.{rises-front, groupsOk, groups-keys, groups-front, key-group}
 
 -- the records of a state, its lines numbered from m on
@@ -42,28 +42,34 @@ module _ (arity : ℕ) (dynamic : Bool) (known : ℕ → Bool) (total : ℕ) whe
     pub lines : Fine arity dynamic known (w .lines)
 
   module _ (small : arity ≤ 32) (good : (o : ℕ) → known o ≡ true → 1 ≤ o) (r : Rec) (rs : List Rec) (w : Waiting) (S : Sound rs w) where
+    -- neither an entry nor a dead clause is without its table
+    nothing-waits : idle (waits dynamic known w) ≡ true → (w .entries ≡ []) × (w .deads ≡ [])
+    nothing-waits e =
+        let i = idle-told (waits dynamic known w) e in
+        (no-items (w .entries) (i .0), no-offsets known (w .deads) (S .deads) (i .1))
+
     line-sound : r .kind ≡ 1 → lineStep dynamic total r (waits dynamic known w) ≡ true
         → Sound (r ∷ rs) (waiting [] [] [] [] (record { tables = w .tables; choices = w .choices } ∷ w .lines))
     unfolding lineStep
     line-sound k e =
-        let x = and7 (eqb (r .sub) (modeOf dynamic)) (eqb (r .half) 0) (eqb (r .long) 0) (eqb (r .word + length (w .lines) + 1) total)
-        (eqb (length (w .entries)) 0) (eqb (firstOf (w .deads)) 0) (dynamic || not (eqb (firstOf (offs (w .choices))) 0)) e in
-        let n : r .word + length (w .lines) + 1 ≡ total = eqb-true (x .3) in
-        let es : w .entries ≡ [] = no-items (w .entries) (x .4) in
-        let ds : w .deads ≡ [] = no-offsets known (w .deads) (S .deads) (x .5) in
+        let x = and5 (eqb (r .sub) (modeOf dynamic)) (bare r) (eqb (r .word + length (w .lines) + 1) total) (idle (waits dynamic known w))
+        (dynamic || not (eqb (firstOf (offs (w .choices))) 0)) e in
+        let b = bare-told r (x .1) in
+        let n : r .word + length (w .lines) + 1 ≡ total = eqb-true (x .2) in
+        let i = nothing-waits (x .3) in
         record {
           same = λ m h.
               let c : suc m + length (w .lines) ≡ total = omega arith in
               let o : r .word ≡ m = omega arith in
-              ap₂ (λ (q : Rec) (qs : List Rec). q ∷ qs) (rec-is r 1 (modeOf dynamic) 0 m 0 k (eqb-true (x .0)) (eqb-true (x .1)) o (eqb-true (x .2)))
-              (rw (es, ds) at (S .same (suc m) c));
+              ap₂ (λ (q : Rec) (qs : List Rec). q ∷ qs) (rec-is r 1 (modeOf dynamic) 0 m 0 k (eqb-true (x .0)) (b .0) o (b .1))
+              (rw (i .0, i .1) at (S .same (suc m) c));
           keys = refl;
           deads = refl;
           args = refl;
           tables = tt;
           rising = refl;
           tags = refl;
-          lines = ((S .args, S .tables, both (S .rising) (both (S .tags) (some-one dynamic (w .choices) (x .6)))), S .lines);
+          lines = ((S .args, S .tables, both (S .rising) (both (S .tags) (some-one dynamic (w .choices) (x .4)))), S .lines);
         }
       where
         some-one : (d : Bool) (cs : List Choice) → d || not (eqb (firstOf (offs cs)) 0) ≡ true → someOk d cs ≡ true
@@ -108,12 +114,11 @@ module _ (arity : ℕ) (dynamic : Bool) (known : ℕ → Bool) (total : ℕ) whe
         → Sound (r ∷ rs) (waiting (w .entries) (w .deads) (onDemand (r .half) ∷ w .tables) (w .choices) (w .lines))
     unfolding demandStep
     demand-sound k e =
-        let x = and3 (eqb (length (w .entries)) 0) (eqb (firstOf (w .deads)) 0) (tableStep arity r (waits dynamic known w)) e in
-        let es : w .entries ≡ [] = no-items (w .entries) (x .0) in
-        let ds : w .deads ≡ [] = no-offsets known (w .deads) (S .deads) (x .1) in
-        let t = table-told 3 k (x .2) in
+        let x = and-true (idle (waits dynamic known w)) (tableStep arity r (waits dynamic known w)) e in
+        let i = nothing-waits (x .0) in
+        let t = table-told 3 k (x .1) in
         record {
-          same = λ m h. rw (es, ds) (ap₂ (λ (q : Rec) (qs : List Rec). q ∷ qs) (t .0) (rw (es, ds) at (S .same m h)));
+          same = λ m h. rw (i .0, i .1) (ap₂ (λ (q : Rec) (qs : List Rec). q ∷ qs) (t .0) (rw (i .0, i .1) at (S .same m h)));
           keys = S .keys;
           deads = S .deads;
           args = t .1;
@@ -171,21 +176,21 @@ module _ (arity : ℕ) (dynamic : Bool) (known : ℕ → Bool) (total : ℕ) whe
         → Sound (r ∷ rs) (waiting (w .entries) (w .deads) (w .tables) (record { tag = r .sub; offset = r .word } ∷ w .choices) (w .lines))
     unfolding choiceStep tagIn
     choice-sound k e =
-        let x = and7 (eqb (length (w .entries)) 0) (eqb (firstOf (w .deads)) 0) (eqb (firstArg (w .tables)) 33) (eqb (r .half) 0) (eqb (r .long) 0)
-        (tagIn dynamic (r .sub)) (rises known (r .word) (firstOf (offs (w .choices)))) e in
-        let es : w .entries ≡ [] = no-items (w .entries) (x .0) in
-        let ds : w .deads ≡ [] = no-offsets known (w .deads) (S .deads) (x .1) in
-        let ts : w .tables ≡ [] = no-tables arity (w .tables) small (S .args) (x .2) in
+        let x = and5 (idle (waits dynamic known w)) (eqb (firstArg (w .tables)) 33) (bare r) (tagIn dynamic (r .sub))
+        (rises known (r .word) (firstOf (offs (w .choices)))) e in
+        let i = nothing-waits (x .0) in
+        let ts : w .tables ≡ [] = no-tables arity (w .tables) small (S .args) (x .1) in
+        let b = bare-told r (x .2) in
         record {
           same = λ m h.
-              rw (es, ds, ts) (ap₂ (λ (q : Rec) (qs : List Rec). q ∷ qs)
-              (rec-is r 6 (r .sub) 0 (r .word) 0 k refl (eqb-true (x .3)) refl (eqb-true (x .4))) (rw (es, ds, ts) at (S .same m h)));
+              rw (i .0, i .1, ts) (ap₂ (λ (q : Rec) (qs : List Rec). q ∷ qs)
+              (rec-is r 6 (r .sub) 0 (r .word) 0 k refl (b .0) refl (b .1)) (rw (i .0, i .1, ts) at (S .same m h)));
           keys = S .keys;
           deads = S .deads;
           args = S .args;
           tables = S .tables;
-          rising = rises-front known (r .word) (offs (w .choices)) (good (r .word)) (x .6) (S .rising);
-          tags = both (tag-in dynamic (x .5)) (S .tags);
+          rising = rises-front known (r .word) (offs (w .choices)) (good (r .word)) (x .4) (S .rising);
+          tags = both (tag-in dynamic (x .3)) (S .tags);
           lines = S .lines;
         }
       where
@@ -197,14 +202,15 @@ module _ (arity : ℕ) (dynamic : Bool) (known : ℕ → Bool) (total : ℕ) whe
         → Sound (r ∷ rs) (waiting (w .entries) (r .word ∷ w .deads) (w .tables) (w .choices) (w .lines))
     unfolding clauseStep
     clause-sound k e =
-        let x = and5 (eqb (length (w .entries)) 0) (eqb (r .sub) 0) (eqb (r .half) 0) (eqb (r .long) 0) (rises known (r .word) (firstOf (w .deads))) e in
+        let x = and4 (eqb (length (w .entries)) 0) (eqb (r .sub) 0) (bare r) (rises known (r .word) (firstOf (w .deads))) e in
+        let b = bare-told r (x .2) in
         let es : w .entries ≡ [] = no-items (w .entries) (x .0) in
         record {
           same = λ m h.
               rw es (ap₂ (λ (q : Rec) (qs : List Rec). q ∷ qs)
-              (rec-is r 7 0 0 (r .word) 0 k (eqb-true (x .1)) (eqb-true (x .2)) refl (eqb-true (x .3))) (rw es at (S .same m h)));
+              (rec-is r 7 0 0 (r .word) 0 k (eqb-true (x .1)) (b .0) refl (b .1)) (rw es at (S .same m h)));
           keys = S .keys;
-          deads = rises-front known (r .word) (w .deads) (good (r .word)) (x .4) (S .deads);
+          deads = rises-front known (r .word) (w .deads) (good (r .word)) (x .3) (S .deads);
           args = S .args;
           tables = S .tables;
           rising = S .rising;

@@ -11,7 +11,7 @@ use Rattle.records.specs.Pointer.{isInternal, distanceOf}
 use Rattle.indexing.specs.Lines.{ext, int, modeOf}
 use Rattle.indexing.specs.Reading.{pointerFrom}
 use Rattle.well_formed.specs.declared.Waits.{Waits}
-use Rattle.well_formed.specs.Pass.{lineStep, switchStep, demandStep, deadStep, entryStep, choiceStep, clauseStep, stepOk, groupBySort, atEntry, after}
+use Rattle.well_formed.specs.Pass.{idle, bare, lineStep, switchStep, demandStep, deadStep, entryStep, choiceStep, clauseStep, stepOk, groupBySort, atEntry, after}
 
 -- ---- a record of a kind
 
@@ -50,18 +50,10 @@ unfolding after
 after-entry k r s a e = rw e
 
 -- a line record that has all but an offset
-pub line-left : (dynamic : Bool) (total : ℕ) (r : Rec) (s : Waits) → r .sub ≡ modeOf dynamic → r .half ≡ 0 → r .long ≡ 0 → r .word + s .lines + 1 ≡ total
-    → s .entries ≡ 0 → s .clause ≡ 0 → lineStep dynamic total r s ≡ (dynamic || not (eqb (s .offset) 0))
+pub line-left : (dynamic : Bool) (total : ℕ) (r : Rec) (s : Waits) → r .sub ≡ modeOf dynamic → bare r ≡ true → r .word + s .lines + 1 ≡ total
+    → idle s ≡ true → lineStep dynamic total r s ≡ (dynamic || not (eqb (s .offset) 0))
 unfolding lineStep
-line-left dynamic total r s a b c d e f =
-    rw (
-      eq-eqb (r .sub) (modeOf dynamic) a,
-      eq-eqb (r .half) 0 b,
-      eq-eqb (r .long) 0 c,
-      eq-eqb (r .word + s .lines + 1) total d,
-      eq-eqb (s .entries) 0 e,
-      eq-eqb (s .clause) 0 f,
-    )
+line-left dynamic total r s a b c d = rw (eq-eqb (r .sub) (modeOf dynamic) a, b, eq-eqb (r .word + s .lines + 1) total c, d)
 
 -- ---- a pointer's word
 

@@ -13,9 +13,9 @@ use Rattle.indexing.proofs.Lists.{All}
 use Rattle.indexing.proofs.Tests.{bool-absurd, eqb-true, and-true}
 use Rattle.indexing.specs.Lines.{Ptr, Entry, switch, onDemand, dead, offs}
 use Rattle.indexing.specs.Reading.{pointerFrom, entryFrom, Waiting, waiting, read, readAll}
-use Rattle.well_formed.specs.Pass.{firstOf, firstArg, firstGroup, reach, waits, groupBySort, formOk, rises, tagIn, tableStep}
+use Rattle.well_formed.specs.Pass.{firstOf, firstArg, firstGroup, reach, waits, groupBySort, formOk, rises, tagIn, idle, bare, tableStep}
 use Rattle.well_formed.specs.Pass.{demandStep, deadStep, entryStep, choiceStep, clauseStep, stepOk, after, keysOnce, nothing, pass}
-use Rattle.well_formed.proofs.PassParts.{and3, and5, and7, group-sort, no-items}
+use Rattle.well_formed.proofs.PassParts.{idle-told, group-sort, no-items}
 
 pub data Turn (k : ℕ) (r : Rec) (w : Waiting) : Waiting → Type 0 where
   turn-line : k ≡ 1 → Turn k r w (waiting [] [] [] [] (record { tables = w .tables; choices = w .choices } ∷ w .lines))
@@ -110,7 +110,7 @@ module _ (arity : ℕ) (dynamic : Bool) (known : ℕ → Bool) (total : ℕ) whe
   turn-behind {r = r} {w = w} rs (turn-demand e) t b =
       let u : demandStep arity r (waits dynamic known w) ≡ true = rw e at t in
       behind-none (w .entries) (r ∷ rs) (no-items (w .entries)
-      (and3 (eqb (length (w .entries)) 0) (eqb (firstOf (w .deads)) 0) (tableStep arity r (waits dynamic known w)) u .0))
+      (idle-told (waits dynamic known w) (and-true (idle (waits dynamic known w)) (tableStep arity r (waits dynamic known w)) u .0) .0))
   turn-behind {r = r} {w = w} rs (turn-dead e) t b =
       let u : deadStep arity r (waits dynamic known w) ≡ true = rw e at t in
       behind-none (w .entries) (r ∷ rs) (no-items (w .entries) (and-true (eqb (length (w .entries)) 0) (tableStep arity r (waits dynamic known w)) u .0))
@@ -121,13 +121,13 @@ module _ (arity : ℕ) (dynamic : Bool) (known : ℕ → Bool) (total : ℕ) whe
   turn-behind {r = r} {w = w} rs (turn-choice e) t b =
       let u : choiceStep dynamic known r (waits dynamic known w) ≡ true = rw e at t in
       behind-none (w .entries) (r ∷ rs) (no-items (w .entries)
-      (and7 (eqb (length (w .entries)) 0) (eqb (firstOf (w .deads)) 0) (eqb (firstArg (w .tables)) 33) (eqb (r .half) 0) (eqb (r .long) 0)
-      (tagIn dynamic (r .sub)) (rises known (r .word) (firstOf (offs (w .choices)))) u .0))
+      (idle-told (waits dynamic known w) (and-true (idle (waits dynamic known w))
+      (eqb (firstArg (w .tables)) 33 && (bare r && (tagIn dynamic (r .sub) && rises known (r .word) (firstOf (offs (w .choices)))))) u .0) .0))
   turn-behind {k = k} {r = r} {w = w} rs (turn-other e₁ e₂ e₃ e₄ e₅ e₆) t b =
       let u : clauseStep known r (waits dynamic known w) ≡ true =
       cond-left (eqb k 7) (clauseStep known r (waits dynamic known w)) (rw (e₁, e₂, e₃, e₄, e₅, e₆) at t) in
       behind-none (w .entries) (r ∷ rs) (no-items (w .entries)
-      (and5 (eqb (length (w .entries)) 0) (eqb (r .sub) 0) (eqb (r .half) 0) (eqb (r .long) 0) (rises known (r .word) (firstOf (w .deads))) u .0))
+      (and-true (eqb (length (w .entries)) 0) (eqb (r .sub) 0 && (bare r && rises known (r .word) (firstOf (w .deads)))) u .0))
 
   pub pass-behind : (rs : List Rec) → pass arity dynamic known total nothing rs ≡ true → Behind (readAll rs nothing .entries) rs
   unfolding pass

@@ -18,9 +18,9 @@ unfoldable pub latest : ℕ → ℕ → List Rec → ℕ
 latest size b [] = 0
 latest size b (r ∷ rs) = let rest = latest size b rs in cond (eqb (bucketOf size r) b) (suc (length rs)) rest
 
--- heads has nothing in any bucket
+-- a table has 0 at every place
 abbrev pub Cleared : List ℕ → Type 0
-Cleared heads = (b : ℕ) → getD heads b 0 ≡ 0
+Cleared table = (i : ℕ) → getD table i 0 ≡ 0
 
 -- heads has for each bucket its latest entry
 abbrev pub Heads : List ℕ → List Rec → Type 0

@@ -77,11 +77,18 @@ unfoldable pub tagIn : Bool → ℕ → Bool
 tagIn true tag = leb 6 tag && leb tag 7
 tagIn false tag = leb 1 tag && leb tag 5
 
+-- neither an entry nor a dead clause is without its table
+unfoldable pub idle : Waits → Bool
+idle s = eqb (s .entries) 0 && eqb (s .clause) 0
+
+-- a record without half and long
+unfoldable pub bare : Rec → Bool
+bare r = eqb (r .half) 0 && eqb (r .long) 0
+
 -- a line record, total the number of all lines: a static line has an offset
 unfoldable pub lineStep : Bool → ℕ → Rec → Waits → Bool
 lineStep dynamic total r s =
-    eqb (r .sub) (modeOf dynamic) && (eqb (r .half) 0 && (eqb (r .long) 0 && (eqb (r .word + s .lines + 1) total
-    && (eqb (s .entries) 0 && (eqb (s .clause) 0 && (dynamic || not (eqb (s .offset) 0)))))))
+    eqb (r .sub) (modeOf dynamic) && (bare r && (eqb (r .word + s .lines + 1) total && (idle s && (dynamic || not (eqb (s .offset) 0)))))
 
 -- a table's record: its argument is at most the arity, and below that of the next table
 unfoldable pub tableStep : ℕ → Rec → Waits → Bool
@@ -93,7 +100,7 @@ unfoldable pub switchStep : ℕ → Rec → Waits → Bool
 switchStep arity r s = eqb (s .clause) 0 && (ltb (r .half) (s .below) && tableStep arity r s)
 
 unfoldable pub demandStep : ℕ → Rec → Waits → Bool
-demandStep arity r s = eqb (s .entries) 0 && (eqb (s .clause) 0 && tableStep arity r s)
+demandStep arity r s = idle s && tableStep arity r s
 
 unfoldable pub deadStep : ℕ → Rec → Waits → Bool
 deadStep arity r s = eqb (s .entries) 0 && tableStep arity r s
@@ -104,14 +111,11 @@ entryStep r s = formOk (r .sub) (r .half) (r .long) && leb (groupBySort (r .sub)
 
 -- an offset: no table and nothing of a table stands behind it
 unfoldable pub choiceStep : Bool → (ℕ → Bool) → Rec → Waits → Bool
-choiceStep dynamic known r s =
-    eqb (s .entries) 0 && (eqb (s .clause) 0 && (eqb (s .first) 33 && (eqb (r .half) 0 && (eqb (r .long) 0
-    && (tagIn dynamic (r .sub) && rises known (r .word) (s .offset))))))
+choiceStep dynamic known r s = idle s && (eqb (s .first) 33 && (bare r && (tagIn dynamic (r .sub) && rises known (r .word) (s .offset))))
 
 -- a dead clause
 unfoldable pub clauseStep : (ℕ → Bool) → Rec → Waits → Bool
-clauseStep known r s =
-    eqb (s .entries) 0 && (eqb (r .sub) 0 && (eqb (r .half) 0 && (eqb (r .long) 0 && rises known (r .word) (s .clause))))
+clauseStep known r s = eqb (s .entries) 0 && (eqb (r .sub) 0 && (bare r && rises known (r .word) (s .clause)))
 
 -- a record of kind k in front of the records that are read
 unfoldable pub stepOk : ℕ → Bool → (ℕ → Bool) → ℕ → ℕ → Rec → Waits → Bool
@@ -215,7 +219,7 @@ keysOnce k es = cond (eqb k 2) (once (entryKeys es)) true
 
 -- nothing is left without a table or line record in front, and there is a line
 unfoldable pub closed : Waits → Bool
-closed s = eqb (s .entries) 0 && (eqb (s .clause) 0 && (eqb (s .first) 33 && (eqb (s .offset) 0 && ltb 0 (s .lines))))
+closed s = idle s && (eqb (s .first) 33 && (eqb (s .offset) 0 && ltb 0 (s .lines)))
 
 -- the state where nothing is read
 abbrev pub nothing : Waiting

@@ -29,6 +29,15 @@ fn same_fields(r: Rec, q: Rec) -> bool
     arity == other_arity
 }
 
+// Whether the entry at a place has the key of r.
+fn key_at(index: &[u8], r: Rec, at: usize) -> bool
+    requires { ⌜ at < length (recordsOf (now index)) ⌝ }
+    ensures { λ b. ⌜ b ≡ sameFields r (getD (recordsOf (now (index .entry))) at none) ⌝ }
+{
+    let q = records::get(index, at);
+    same_fields(r, q)
+}
+
 // Whether one of the entries from a place up to another has the key of r.
 fn key_among(index: &[u8], r: Rec, from: usize, to: usize) -> bool
     requires { ⌜ to ≤ length (recordsOf (now index)) ⌝ }
@@ -36,8 +45,7 @@ fn key_among(index: &[u8], r: Rec, from: usize, to: usize) -> bool
 {
     let mut i = from;
     while i < to {
-        let q = records::get(index, i);
-        if same_fields(r, q) {
+        if key_at(index, r, i) {
             return true;
         }
         i += 1;
@@ -74,7 +82,7 @@ fn bucket_of(r: Rec, size: usize) -> usize
 }
 
 // Whether one of the entries behind a place, up to another, has its key: those in its bucket are looked at, one by one. Where 32 of
-// them do not decide it, all entries behind are looked at: a crowded bucket costs no more than pair by pair.
+// them do not decide it, all entries behind are looked at: a crowded bucket costs 32 comparisons for each key more than pair by pair.
 fn key_chained(
     index: &[u8],
     at: usize,
@@ -95,8 +103,7 @@ fn key_chained(
         if steps == 32 {
             return key_among(index, r, at + 1, to);
         }
-        let q = records::get(index, to - number);
-        if same_fields(r, q) {
+        if key_at(index, r, to - number) {
             return true;
         }
         number = links[number - 1] as usize;

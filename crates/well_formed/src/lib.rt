@@ -6,14 +6,15 @@ mod steps;
 
 ghost use mathlib.Core.Path.{_≡_};
 ghost use mathlib.Core.Bool.{true};
-ghost use Prim.Native.Nat.{_≤_};
-ghost use lib.ListN.{length, take, replicate};
+ghost use Prim.Native.Nat.{_-_, _≤_};
+ghost use lib.ListN.{length, take};
 ghost use Rattle.records.specs.Records.{recordsOf};
 ghost use Rattle.indexing.specs.Reading.{parse};
 ghost use Rattle.indexing_iter.specs.Checks.{risingBelow};
 ghost use Rattle.indexing_iter.specs.Clauses.{known};
 ghost use Rattle.well_formed.specs.WellFormed.{wellFormed};
 ghost use Rattle.well_formed.specs.Pass.{closed, marked, Marks, oneLine, checked};
+ghost use Rattle.well_formed.specs.Chains.{Cleared};
 
 // The state of the pass. Of what has no table or line record in front of it yet: how many entries, the group of the first of
 // them (4: none) and what the argument of their switch must be below; the first dead clause (0: none); the first table's
@@ -32,15 +33,10 @@ pub struct Waits {
 fn is_closed(s: Waits) -> bool
     ensures { λ b. ⌜ b ≡ closed s ⌝ }
 {
-    let entries = s.entries;
-    let clause = s.clause;
     let first = s.first;
     let offset = s.offset;
     let lines = s.lines;
-    if entries != 0 {
-        return false;
-    }
-    if clause != 0 {
+    if !steps::is_idle(s) {
         return false;
     }
     if first != 33 {
@@ -79,8 +75,8 @@ pub fn count_lines(index: &[u8], count: usize) -> usize
 
 // Marks the offsets of the clauses: each start plus 1.
 fn mark_starts(marks: &mut [u8], starts: &[u32])
-    requires { ⌜ now marks ≡ replicate 32769 0 ⌝ }
-    requires { ⌜ risingBelow 32768 (now starts) ≡ true ⌝ }
+    requires { ⌜ Cleared (now marks) ⌝ }
+    requires { ⌜ risingBelow (length (now marks) - 1) (now starts) ≡ true ⌝ }
     ensures { λ _. ⌜ Marks (now (marks .exit)) (now (starts .entry)) ⌝ }
 {
     let mut i = starts.len();
@@ -102,7 +98,7 @@ fn check_records(
     dynamic: bool,
 ) -> bool
     requires { ⌜ (count ≤ length (recordsOf (now index))) × (count ≤ 65535) ⌝ }
-    requires { ⌜ 65536 ≤ length (now firsts) ⌝ }
+    requires { ⌜ count ≤ length (now firsts) ⌝ }
     ensures { λ b. ⌜ b ≡ checked arity dynamic (marked (now (marks .entry))) total (take count (recordsOf (now (index .entry)))) ⌝ }
 {
     let mut s = steps::at_line(0);
@@ -125,6 +121,48 @@ fn check_records(
     is_closed(s)
 }
 
+// Number 12 with tables for the clauses' offsets and for the first arguments of the lines.
+fn formed_with(
+    index: &[u8],
+    count: usize,
+    starts: &[u32],
+    arity: u32,
+    dynamic: bool,
+    marks: &mut [u8],
+    firsts: &mut [u16],
+) -> bool
+    requires { ⌜ (count ≤ length (recordsOf (now index))) × (count ≤ 65535) × (count ≤ length (now firsts)) ⌝ }
+    requires { ⌜ (risingBelow (length (now marks) - 1) (now starts) ≡ true) × (length (now marks) ≤ 32769) × Cleared (now marks) ⌝ }
+    requires { ⌜ arity ≤ 32 ⌝ }
+    ensures { λ r. ⌜ r ≡ wellFormed arity dynamic (known (now (starts .entry))) (take count (recordsOf (now (index .entry)))) ⌝ }
+{
+    mark_starts(marks, starts);
+    let total = count_lines(index, count);
+    check_records(index, count, total, marks, firsts, arity, dynamic)
+}
+
+// The same for code of at most 2,047 records and an index of at most 2,048, with little to clear.
+fn formed_few(index: &[u8], count: usize, starts: &[u32], arity: u32, dynamic: bool) -> bool
+    requires { ⌜ (count ≤ length (recordsOf (now index))) × (count ≤ 2048) ⌝ }
+    requires { ⌜ (risingBelow 2047 (now starts) ≡ true) × (arity ≤ 32) ⌝ }
+    ensures { λ r. ⌜ r ≡ wellFormed arity dynamic (known (now (starts .entry))) (take count (recordsOf (now (index .entry)))) ⌝ }
+{
+    let mut marks = [0u8; 2048];
+    let mut firsts = [0u16; 2048];
+    formed_with(index, count, starts, arity, dynamic, &mut marks, &mut firsts)
+}
+
+// The same for as many records as code and an index can have.
+fn formed_many(index: &[u8], count: usize, starts: &[u32], arity: u32, dynamic: bool) -> bool
+    requires { ⌜ (count ≤ length (recordsOf (now index))) × (count ≤ 65535) ⌝ }
+    requires { ⌜ (risingBelow 32768 (now starts) ≡ true) × (arity ≤ 32) ⌝ }
+    ensures { λ r. ⌜ r ≡ wellFormed arity dynamic (known (now (starts .entry))) (take count (recordsOf (now (index .entry)))) ⌝ }
+{
+    let mut marks = [0u8; 32769];
+    let mut firsts = [0u16; 65535];
+    formed_with(index, count, starts, arity, dynamic, &mut marks, &mut firsts)
+}
+
 // Number 12, of the first count records of an index for checked code of n records with these starts.
 pub fn well_formed(
     index: &[u8],
@@ -139,9 +177,10 @@ pub fn well_formed(
     requires { ⌜ arity ≤ 32 ⌝ }
     ensures { λ r. ⌜ r ≡ wellFormed arity dynamic (known (now (starts .entry))) (take count (recordsOf (now (index .entry)))) ⌝ }
 {
-    let mut marks = [0u8; 32769];
-    mark_starts(&mut marks, starts);
-    let total = count_lines(index, count);
-    let mut firsts = [0u16; 65536];
-    check_records(index, count, total, &marks, &mut firsts, arity, dynamic)
+    if n <= 2047 {
+        if count <= 2048 {
+            return formed_few(index, count, starts, arity, dynamic);
+        }
+    }
+    formed_many(index, count, starts, arity, dynamic)
 }

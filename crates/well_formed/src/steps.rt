@@ -6,9 +6,33 @@ ghost use mathlib.Core.Path.{_≡_};
 ghost use Prim.Native.Nat.{_<_};
 ghost use lib.ListN.{length};
 ghost use Rattle.indexing.specs.Reading.{pointerFrom};
-ghost use Rattle.well_formed.specs.Pass.{lineStep, tableStep, switchStep, demandStep, deadStep};
+ghost use Rattle.well_formed.specs.Pass.{idle, bare, lineStep, tableStep, switchStep, demandStep, deadStep};
 ghost use Rattle.well_formed.specs.Pass.{entryStep, choiceStep, clauseStep, stepOk, fresh, atSwitch, atDemand, atDead, atEntry, atChoice, atClause};
 ghost use Rattle.well_formed.specs.Pass.{after, marked, reachIn, noted};
+
+// Neither an entry nor a dead clause is without its table.
+pub fn is_idle(s: Waits) -> bool
+    ensures { λ b. ⌜ b ≡ idle s ⌝ }
+{
+    let entries = s.entries;
+    let clause = s.clause;
+    if entries != 0 {
+        return false;
+    }
+    clause == 0
+}
+
+// A record without half and long.
+fn is_bare(r: Rec) -> bool
+    ensures { λ b. ⌜ b ≡ bare r ⌝ }
+{
+    let half = r.half;
+    let long = r.long;
+    if half != 0 {
+        return false;
+    }
+    long == 0
+}
 
 // A line record: it has the number that is due, total the number of all lines, and a static line has an offset.
 fn line_ok(r: Rec, s: Waits, total: usize, dynamic: bool) -> bool
@@ -16,29 +40,19 @@ fn line_ok(r: Rec, s: Waits, total: usize, dynamic: bool) -> bool
     ensures { λ b. ⌜ b ≡ lineStep dynamic total r s ⌝ }
 {
     let sub = r.sub;
-    let half = r.half;
-    let long = r.long;
     let number = r.word as usize;
     let lines = s.lines;
-    let entries = s.entries;
-    let clause = s.clause;
     let offset = s.offset;
     if sub != indexing::mode_of(dynamic) {
         return false;
     }
-    if half != 0 {
-        return false;
-    }
-    if long != 0 {
+    if !is_bare(r) {
         return false;
     }
     if number + lines + 1 != total {
         return false;
     }
-    if entries != 0 {
-        return false;
-    }
-    if clause != 0 {
+    if !is_idle(s) {
         return false;
     }
     if dynamic {
@@ -94,12 +108,7 @@ fn switch_ok(r: Rec, s: Waits, arity: u32) -> bool
 fn demand_ok(r: Rec, s: Waits, arity: u32) -> bool
     ensures { λ b. ⌜ b ≡ demandStep arity r s ⌝ }
 {
-    let entries = s.entries;
-    let clause = s.clause;
-    if entries != 0 {
-        return false;
-    }
-    if clause != 0 {
+    if !is_idle(s) {
         return false;
     }
     table_ok(r, s, arity)
@@ -132,24 +141,14 @@ fn entry_ok(r: Rec, s: Waits) -> bool
 fn choice_ok(r: Rec, s: Waits, marks: &[u8], dynamic: bool) -> bool
     ensures { λ b. ⌜ b ≡ choiceStep dynamic (marked (now (marks .entry))) r s ⌝ }
 {
-    let half = r.half;
-    let long = r.long;
-    let entries = s.entries;
-    let clause = s.clause;
     let first = s.first;
-    if entries != 0 {
-        return false;
-    }
-    if clause != 0 {
+    if !is_idle(s) {
         return false;
     }
     if first != 33 {
         return false;
     }
-    if half != 0 {
-        return false;
-    }
-    if long != 0 {
+    if !is_bare(r) {
         return false;
     }
     if !forms::tag_ok(dynamic, r.sub) {
@@ -163,8 +162,6 @@ fn clause_ok(r: Rec, s: Waits, marks: &[u8]) -> bool
     ensures { λ b. ⌜ b ≡ clauseStep (marked (now (marks .entry))) r s ⌝ }
 {
     let sub = r.sub;
-    let half = r.half;
-    let long = r.long;
     let entries = s.entries;
     if entries != 0 {
         return false;
@@ -172,10 +169,7 @@ fn clause_ok(r: Rec, s: Waits, marks: &[u8]) -> bool
     if sub != 0 {
         return false;
     }
-    if half != 0 {
-        return false;
-    }
-    if long != 0 {
+    if !is_bare(r) {
         return false;
     }
     forms::may_rise(marks, r.word, s.clause)

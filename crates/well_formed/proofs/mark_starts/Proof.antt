@@ -1,9 +1,9 @@
 -- The offsets of the starts met so far are marked, the last start first. Assumes nothing.
-use mathlib.Core.Path.{_≡_, refl, ap, _∙_}
+use mathlib.Core.Path.{_≡_, refl, _∙_}
 use Prim.Native.Nat.{ℕ, _+_, _-_, _≤_, _<_}
 use native.Mathlib.Omega.{arith}
 use borrow.Author.Needs.{needs}
-use lib.ListN.{length, getD, drop, length-set, length-replicate}
+use lib.ListN.{length, getD, drop, length-set}
 use Rattle.well_formed.specs.Pass.{Marks}
 use Rattle.well_formed.proofs.Marking.{marks-none, marks-more, start-below}
 use Rattle.well_formed.proofs.mark_starts.Statement.{statement}
@@ -24,13 +24,13 @@ within : (c : tie.After-shared-slice-known Inv-loop μ-loop)
 within c =
     let l = c .before .before in
     let s = l .before in
-    let n : length (s .args .marks .now) ≡ 32769 = ap length (s .pre .0) ∙ length-replicate {A = ℕ} 32769 0 in
-    omega (arith, l .loop .inv .0, start-below 32768 (s .args .starts .now) (l .loop .i - 1) (s .pre .1) (omega (arith, l .loop .inv .1)))
+    let n : ℕ = length (s .args .marks .now) - 1 in
+    omega (arith, l .loop .inv .0, start-below n (s .args .starts .now) (l .loop .i - 1) (s .pre .1) (omega (arith, l .loop .inv .1)))
 
 loop-holds : tie.Need-loop-holds Inv-loop μ-loop
 loop-holds c =
     let a = c .args in
-    (refl, omega arith, marks-none (a .marks .now) 32769 (length (a .starts .now)) (a .starts .now) (c .pre .0) (omega arith))
+    (refl, omega arith, marks-none (a .marks .now) (length (a .starts .now)) (a .starts .now) (c .pre .0) (omega arith))
 
 sub-i : tie.Need-sub-i Inv-loop μ-loop
 sub-i c = omega arith

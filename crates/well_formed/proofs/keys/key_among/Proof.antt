@@ -11,8 +11,7 @@ use Rattle.well_formed.proofs.keys.key_among.Statement.{statement}
 use Rattle.well_formed.proofs.keys.key_among.Tie as tie
 use Rattle.well_formed.proofs.keys.key_among.Reads as reads
 use Rattle.well_formed.proofs.keys.key_among.Lts as lts
-use Rattle.records.proofs.get.Reads as get-reads
-use Rattle.well_formed.proofs.keys.same_fields.Reads as same-fields-reads
+use Rattle.well_formed.proofs.keys.key_at.Reads as key-at-reads
 
 abbrev Inv-loop : tie.InvT-loop
 Inv-loop index r from to i₀ i = among r (slice i to (recordsOf index)) ≡ among r (slice from to (recordsOf index))
@@ -21,24 +20,22 @@ abbrev μ-loop : tie.MeasureT-loop
 μ-loop index r from to i₀ i = to - i
 
 -- in a turn: whether the record at i has the key, and whether one after it has
-turn : (c : tie.After-same-fields Inv-loop μ-loop)
-    → let a = c .before .before .before .before .before .args in
+turn : (c : tie.After-key-at Inv-loop μ-loop)
+    → let l = c .before .before in
+    let a = l .before .before .args in
     let rs = recordsOf (a .index .now) in
-    (c .same-fields .result || among (a .r) (slice (c .before .before .before .loop .i + 1) (a .to) rs)) ≡ among (a .r) (slice (a .from) (a .to) rs)
+    (c .key-at .result || among (a .r) (slice (l .loop .i + 1) (a .to) rs)) ≡ among (a .r) (slice (a .from) (a .to) rs)
 turn c =
-    let a = c .before .before .before .before .before .args in
-    let rs = recordsOf (a .index .now) in
-    rw (among-step (a .r) _ rs _ _ (c .before .before .loop-test .taken) (search needs) (c .before .get .ensures), ← c .same-fields .ensures)
-    at (c .before .before .before .loop .inv)
+    let l = c .before .before in
+    let st = l .before .before in
+    let a = st .args in
+    rw (among-step (a .r) (recordsOf (a .index .now)) _ _ (c .before .loop-test .taken) (st .pre), ← c .key-at .ensures) at (l .loop .inv)
 
 loop-holds : tie.Need-loop-holds Inv-loop μ-loop
 loop-holds c = search needs
 
-get-requires : tie.Need-get-requires Inv-loop μ-loop
-get-requires c κs = search needs
-
-same-fields-requires : tie.Need-same-fields-requires Inv-loop μ-loop
-same-fields-requires c κs = search needs
+key-at-requires : tie.Need-key-at-requires Inv-loop μ-loop
+key-at-requires c κs = search needs
 
 returns : tie.Need-returns Inv-loop μ-loop
 returns c = rw (c .if1 .taken) at (turn (c .before))
@@ -62,8 +59,7 @@ key-among-spec =
     Inv-loop
     μ-loop
     loop-holds
-    get-requires
-    same-fields-requires
+    key-at-requires
     returns
     add-i
     loop-less

@@ -6,7 +6,7 @@ use borrow.Author.Needs.{needs}
 use lib.ListN.{length, getD}
 use lib.Seq.{slice}
 use Rattle.records.specs.Records.{recordsOf, none}
-use Rattle.well_formed.specs.Pass.{sameFields, among}
+use Rattle.well_formed.specs.Pass.{among}
 use Rattle.well_formed.proofs.ChainLaws.{Reached, chain-start, found, shorter, follow, followed}
 use Rattle.well_formed.proofs.keys.key_chained.Statement.{statement}
 use Rattle.well_formed.proofs.keys.key_chained.Tie as tie
@@ -14,7 +14,7 @@ use Rattle.well_formed.proofs.keys.key_chained.Reads as reads
 use Rattle.well_formed.proofs.keys.key_chained.Lts as lts
 use Rattle.records.proofs.get.Reads as get-reads
 use Rattle.well_formed.proofs.keys.key_among.Reads as key-among-reads
-use Rattle.well_formed.proofs.keys.same_fields.Reads as same-fields-reads
+use Rattle.well_formed.proofs.keys.key_at.Reads as key-at-reads
 
 abbrev Inv-loop : tie.InvT-loop
 Inv-loop index at to bucket heads links r number₀ steps₀ number steps =
@@ -23,13 +23,6 @@ Inv-loop index at to bucket heads links r number₀ steps₀ number steps =
 
 abbrev μ-loop : tie.MeasureT-loop
 μ-loop index at to bucket heads links r number₀ steps₀ number steps = number
-
--- in a turn: whether the entry with the present number has the key
-turn : (c : tie.After-same-fields Inv-loop μ-loop)
-    → let l = c .before .before .before .before in
-    let a = l .before .before .before .before .before .before .args in
-    c .same-fields .result ≡ sameFields (l .before .before .get .result) (getD (recordsOf (a .index .now)) (a .to - l .loop .number) none)
-turn c = rw (← c .before .get2 .ensures) (c .same-fields .ensures)
 
 get-requires : tie.Need-get-requires Inv-loop μ-loop
 get-requires c κs = search needs
@@ -63,20 +56,18 @@ key-among-requires c κs = search needs
 returns : tie.Need-returns Inv-loop μ-loop
 returns c = rw (← c .before .before .before .loop .inv .0) (c .key-among .ensures)
 
-sub-get : tie.Need-sub-get Inv-loop μ-loop
-sub-get c = search needs
+sub-key-at : tie.Need-sub-key-at Inv-loop μ-loop
+sub-key-at c = search needs
 
-get-requires-2 : tie.Need-get-requires-2 Inv-loop μ-loop
-get-requires-2 c κs = search needs
-
-same-fields-requires : tie.Need-same-fields-requires Inv-loop μ-loop
-same-fields-requires c κs = search needs
+key-at-requires : tie.Need-key-at-requires Inv-loop μ-loop
+key-at-requires c κs = search needs
 
 returns-2 : tie.Need-returns-2 Inv-loop μ-loop
 returns-2 c =
-    let l = c .before .before .before .before .before in
+    let l = c .before .before .before .before in
     rw (← l .loop .inv .0)
-    (sym (found _ _ _ _ _ _ _ (search needs) (omega arith) _ (l .loop .number - 1) (omega arith) (l .loop .inv .2) (sym (turn (c .before)) ∙ c .if2 .taken)))
+    (sym (found _ _ _ _ _ _ _ (search needs) (omega arith) _ (l .loop .number - 1) (omega arith) (l .loop .inv .2)
+    (sym (c .before .key-at .ensures) ∙ c .if2 .taken)))
 
 sub-number : tie.Need-sub-number Inv-loop μ-loop
 sub-number c = search needs
@@ -88,23 +79,23 @@ shared-slice-read-number-2 : tie.Need-shared-slice-read-number-2 Inv-loop μ-loo
 shared-slice-read-number-2 c = search needs
 
 cast-number-2 : tie.Need-cast-number-2 Inv-loop μ-loop
-cast-number-2 c = omega (arith, c .shared-slice-known5 .given (c .before .before .before .before .before .before .loop .number - 1))
+cast-number-2 c = omega (arith, c .shared-slice-known5 .given (c .before .before .before .before .before .loop .number - 1))
 
 add-steps : tie.Need-add-steps Inv-loop μ-loop
 add-steps c = search needs
 
 loop-less : tie.Need-loop-less Inv-loop μ-loop
 loop-less c =
-    let l = c .before .before .before .before .before .before in
+    let l = c .before .before .before .before .before in
     omega (arith, shorter _ _ _ _ _ _ _ (search needs) (omega arith) _ (l .loop .number - 1) (omega arith) (l .loop .inv .2))
 
 loop-again : tie.Need-loop-again Inv-loop μ-loop
 loop-again c =
-    let l = c .before .before .before .before .before .before in (
+    let l = c .before .before .before .before .before in (
       l .loop .inv .0,
       omega arith,
       follow _ _ _ _ _ _ _ (search needs) (omega arith) _ (l .loop .number - 1) (omega arith) (l .loop .inv .2)
-          (sym (turn (c .before .before)) ∙ c .before .if2 .left),
+          (sym (c .before .before .key-at .ensures) ∙ c .before .if2 .left),
     )
 
 returns-3 : tie.Need-returns-3 Inv-loop μ-loop
@@ -126,9 +117,8 @@ key-chained-spec =
     add-key-among
     key-among-requires
     returns
-    sub-get
-    get-requires-2
-    same-fields-requires
+    sub-key-at
+    key-at-requires
     returns-2
     sub-number
     mul-number-2

@@ -1,14 +1,16 @@
 -- A line record, test by test. Assumes nothing.
 use mathlib.Core.Path.{sym, _∙_}
-use Rattle.well_formed.proofs.StepLaws.{line-left}
-use borrow.Author.Tests.{eq-eqb, ne-eqb}
+use borrow.Author.Tests.{eq-eqb, ne-eqb, not-false, not-true}
 use Rattle.well_formed.specs.Pass.{lineStep}
+use Rattle.well_formed.proofs.StepLaws.{line-left}
 use borrow.Author.Needs.{needs}
 use Rattle.well_formed.proofs.steps.line_ok.Statement.{statement}
 use Rattle.well_formed.proofs.steps.line_ok.Tie as tie
 use Rattle.well_formed.proofs.steps.line_ok.Reads as reads
 use Rattle.well_formed.proofs.steps.line_ok.Lts as lts
 use Rattle.indexing.proofs.mode_of.Reads as mode-of-reads
+use Rattle.well_formed.proofs.steps.is_idle.Reads as is-idle-reads
+use Rattle.well_formed.proofs.steps.is_bare.Reads as is-bare-reads
 
 cast-number : tie.Need-cast-number
 cast-number c = search needs
@@ -20,59 +22,59 @@ returns : tie.Need-returns
 unfolding lineStep
 returns c = simp (← c .before .mode-of .ensures, ne-eqb _ _ (c .if1 .taken))
 
+is-bare-requires : tie.Need-is-bare-requires
+is-bare-requires c κs = search needs
+
 returns-2 : tie.Need-returns-2
 unfolding lineStep
-returns-2 c = simp (← c .before .before .mode-of .ensures, eq-eqb _ _ (c .before .if1 .left), ne-eqb _ _ (c .if2 .taken))
+returns-2 c =
+    let m = c .before .before in
+    simp (← m .before .mode-of .ensures, eq-eqb _ _ (m .if1 .left), sym (c .before .is-bare .ensures) ∙ not-true _ (c .if2 .taken))
+
+add-if3 : tie.Need-add-if3
+add-if3 c = search needs
+
+add-if3-2 : tie.Need-add-if3-2
+add-if3-2 c = search needs
 
 returns-3 : tie.Need-returns-3
 unfolding lineStep
 returns-3 c =
+    let b = c .before in
+    let m = b .before .before in
     simp
-    (← c .before .before .before .mode-of .ensures, eq-eqb _ _ (c .before .before .if1 .left), eq-eqb _ _ (c .before .if2 .left),
-      ne-eqb _ _ (c .if3 .taken))
+    (← m .before .mode-of .ensures, eq-eqb _ _ (m .if1 .left), sym (b .before .is-bare .ensures) ∙ not-false _ (b .if2 .left), ne-eqb _ _ (c .if3 .taken))
 
-add-if4 : tie.Need-add-if4
-add-if4 c = search needs
-
-add-if4-2 : tie.Need-add-if4-2
-add-if4-2 c = search needs
+is-idle-requires : tie.Need-is-idle-requires
+is-idle-requires c κs = search needs
 
 returns-4 : tie.Need-returns-4
 unfolding lineStep
 returns-4 c =
+    let n = c .before .before in
+    let b = n .before in
+    let m = b .before .before in
     simp
-    (← c .before .before .before .before .mode-of .ensures, eq-eqb _ _ (c .before .before .before .if1 .left),
-      eq-eqb _ _ (c .before .before .if2 .left), eq-eqb _ _ (c .before .if3 .left), ne-eqb _ _ (c .if4 .taken))
+    (← m .before .mode-of .ensures, eq-eqb _ _ (m .if1 .left), sym (b .before .is-bare .ensures) ∙ not-false _ (b .if2 .left), eq-eqb _ _ (n .if3 .left),
+      sym (c .before .is-idle .ensures) ∙ not-true _ (c .if4 .taken))
 
 returns-5 : tie.Need-returns-5
-unfolding lineStep
 returns-5 c =
-    simp
-    (← c .before .before .before .before .before .mode-of .ensures, eq-eqb _ _ (c .before .before .before .before .if1 .left),
-      eq-eqb _ _ (c .before .before .before .if2 .left), eq-eqb _ _ (c .before .before .if3 .left), eq-eqb _ _ (c .before .if4 .left),
-      ne-eqb _ _ (c .if5 .taken))
+    let i = c .before in
+    let n = i .before .before in
+    let b = n .before in
+    let m = b .before .before in
+    sym (line-left _ _ _ _ (m .if1 .left ∙ m .before .mode-of .ensures) (sym (b .before .is-bare .ensures) ∙ not-false _ (b .if2 .left)) (n .if3 .left)
+    (sym (i .before .is-idle .ensures) ∙ not-false _ (i .if4 .left)) ∙ rw (c .if5 .taken))
 
 returns-6 : tie.Need-returns-6
-unfolding lineStep
 returns-6 c =
-    simp
-    (← c .before .before .before .before .before .before .mode-of .ensures, eq-eqb _ _ (c .before .before .before .before .before .if1 .left),
-      eq-eqb _ _ (c .before .before .before .before .if2 .left), eq-eqb _ _ (c .before .before .before .if3 .left),
-      eq-eqb _ _ (c .before .before .if4 .left), eq-eqb _ _ (c .before .if5 .left), ne-eqb _ _ (c .if6 .taken))
-
-returns-7 : tie.Need-returns-7
-returns-7 c =
-    let a = c .before .before .before .before .before .before in
-    let d = c .before .before .before in
-    sym (line-left _ _ _ _ (a .if1 .left ∙ a .before .mode-of .ensures) (d .before .before .if2 .left) (d .before .if3 .left) (d .if4 .left)
-    (c .before .before .if5 .left) (c .before .if6 .left) ∙ rw (c .if7 .taken))
-
-returns-8 : tie.Need-returns-8
-returns-8 c =
-    let a = c .before .before .before .before .before .before in
-    let d = c .before .before .before in
-    sym (line-left _ _ _ _ (a .if1 .left ∙ a .before .mode-of .ensures) (d .before .before .if2 .left) (d .before .if3 .left) (d .if4 .left)
-    (c .before .before .if5 .left) (c .before .if6 .left) ∙ rw (c .if7 .left))
+    let i = c .before in
+    let n = i .before .before in
+    let b = n .before in
+    let m = b .before .before in
+    sym (line-left _ _ _ _ (m .if1 .left ∙ m .before .mode-of .ensures) (sym (b .before .is-bare .ensures) ∙ not-false _ (b .if2 .left)) (n .if3 .left)
+    (sym (i .before .is-idle .ensures) ∙ not-false _ (i .if4 .left)) ∙ rw (c .if5 .left))
 
 pub line-ok-spec : {M : Type 1} → statement M
 line-ok-spec =
@@ -81,12 +83,12 @@ line-ok-spec =
     cast-number
     mode-of-requires
     returns
+    is-bare-requires
     returns-2
+    add-if3
+    add-if3-2
     returns-3
-    add-if4
-    add-if4-2
+    is-idle-requires
     returns-4
     returns-5
-    returns-6
-    returns-7
-    returns-8)
+    returns-6)
