@@ -4,3 +4,4 @@ pub mod BucketLaws
 pub mod LineLaws
 pub mod ColumnLaws
 pub mod FillingLaws
+pub mod LeaderLaws
