@@ -5,3 +5,4 @@ pub mod LineLaws
 pub mod ColumnLaws
 pub mod FillingLaws
 pub mod LeaderLaws
+pub mod Left
