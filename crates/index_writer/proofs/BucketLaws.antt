@@ -107,21 +107,21 @@ module _ (leaders heads bits offs : List ℕ) (dynamic : Bool) where
       let e3 = length-entries leaders heads bits offs dynamic 3 structures in
       simp length-append (omega arith)
 
-  -- the switch from its parts, as they are written
+  -- the switch by its parts
   pub switch-parts : (arg d structures literals : ℕ) → structures ≡ d + listLines leaders heads dynamic
       → literals ≡ structures + linesTo leaders heads dynamic 3 (length leaders)
-      → ((([] ++ (rec 2 0 arg 0 0 ∷ [])) ++ entries leaders heads bits offs dynamic 1 literals)
-      ++ listEntries leaders heads bits offs dynamic d) ++ entries leaders heads bits offs dynamic 3 structures
-      ≡ switchRecs leaders heads bits offs dynamic arg d
+      → switchRecs leaders heads bits offs dynamic arg d
+      ≡ rec 2 0 arg 0 0 ∷ (entries leaders heads bits offs dynamic 1 literals
+      ++ (listEntries leaders heads bits offs dynamic d ++ entries leaders heads bits offs dynamic 3 structures))
   unfolding switchRecs
-  switch-parts arg d structures literals e f =
-      ap (λ (l : List Rec). rec 2 0 arg 0 0 ∷ l)
-      (append-assoc
-      (entries leaders heads bits offs dynamic 1 literals)
-      (listEntries leaders heads bits offs dynamic d)
-      (entries leaders heads bits offs dynamic 3 structures))
-      ∙ ap₂
-      (λ (x y : ℕ). rec 2 0 arg 0 0
-      ∷ (entries leaders heads bits offs dynamic 1 x ++ (listEntries leaders heads bits offs dynamic d ++ entries leaders heads bits offs dynamic 3 y)))
-      (f ∙ ap (λ (x : ℕ). x + linesTo leaders heads dynamic 3 (length leaders)) e)
-      e
+  switch-parts arg d structures literals e f = rw (f, e) refl
+
+-- distances of lines stay small
+pub distance-first : {n d : ℕ} → n ≤ 1024 → d ≤ 65536 → d + n < 2147483648
+distance-first h k = omega arith
+
+pub distance-next : {n d x : ℕ} → n ≤ 1024 → d ≤ 65536 → x ≤ n + 1 → d + x + n < 2147483648
+distance-next h k u = omega arith
+
+pub distance-small : {n d x y : ℕ} → n ≤ 1024 → d ≤ 65536 → x ≤ n + 1 → y ≤ n → d + x + y + n < 2147483648
+distance-small h k u v = omega arith

@@ -4,3 +4,5 @@ pub mod BucketLaws
 pub mod LineLaws
 pub mod ColumnLaws
 pub mod FillingLaws
+pub mod LeaderLaws
+pub mod Left

@@ -1,6 +1,7 @@
 -- Laws of a new line's records: its tables, its offsets, and how many records they are. Assumes nothing.
 use mathlib.Core.Path.{_≡_, refl, sym, ap, ap₂, _∙_}
-use Prim.Native.Nat.{ℕ, _+_, _-_}
+use Prim.Native.Nat.{ℕ, _+_, _-_, _≤_}
+use native.Mathlib.Omega.{arith}
 use mathlib.Core.Bool.{Bool, true, false, cond}
 use mathlib.Core.List.{List, [], _∷_, _++_, append-assoc}
 use lib.ListN.{length, getD, length-append}
@@ -143,16 +144,13 @@ module _ (leaders heads opens offs tags : List ℕ) (S : Settings) (arg : ℕ) w
   unfolding listLine
   list-lines number e = rw e
 
-  -- all new lines from their parts, as they are written
+  -- all new lines by their parts
   pub new-parts : (number structures literals : ℕ) → structures ≡ number + listLines leaders heads (S .dynamic)
       → literals ≡ structures + linesTo leaders heads (S .dynamic) 3 (length leaders)
-      → (([] ++ listLine leaders heads opens offs tags S arg number) ++ groupOf 3 structures) ++ groupOf 1 literals
-      ≡ newLinesRecs leaders heads opens offs tags S arg number
+      → newLinesRecs leaders heads opens offs tags S arg number
+      ≡ listLine leaders heads opens offs tags S arg number ++ (groupOf 3 structures ++ groupOf 1 literals)
   unfolding newLinesRecs
-  new-parts number structures literals e f =
-      append-assoc (listLine leaders heads opens offs tags S arg number) (groupOf 3 structures) (groupOf 1 literals)
-      ∙ ap₂ (λ (x y : ℕ). listLine leaders heads opens offs tags S arg number ++ (groupOf 3 y ++ groupOf 1 x))
-      (f ∙ ap (λ (x : ℕ). x + linesTo leaders heads (S .dynamic) 3 (length leaders)) e) e
+  new-parts number structures literals e f = rw (f, e) refl
 
   pub length-parts : (number structures literals : ℕ) → structures ≡ number + listLines leaders heads (S .dynamic)
       → literals ≡ structures + linesTo leaders heads (S .dynamic) 3 (length leaders)
@@ -160,5 +158,15 @@ module _ (leaders heads opens offs tags : List ℕ) (S : Settings) (arg : ℕ) w
       ≡ length (listLine leaders heads opens offs tags S arg number) + length (groupOf 3 structures) + length (groupOf 1 literals)
   length-parts number structures literals e f =
       let lists : List Rec = listLine leaders heads opens offs tags S arg number in
-      ap length (sym (new-parts number structures literals e f)) ∙ length-append (lists ++ groupOf 3 structures) (groupOf 1 literals)
-      ∙ ap (λ (x : ℕ). x + length (groupOf 1 literals)) (length-append lists (groupOf 3 structures))
+      omega (arith, ap length (new-parts number structures literals e f), length-append lists (groupOf 3 structures ++ groupOf 1 literals),
+      length-append (groupOf 3 structures) (groupOf 1 literals))
+
+-- the numbers of new lines stay small
+pub number-first : {d : ℕ} → d ≤ 65536 → d ≤ 100000
+number-first k = omega arith
+
+pub number-next : {n d x : ℕ} → n ≤ 1024 → d ≤ 65536 → x ≤ n + 1 → d + x ≤ 100000
+number-next h k u = omega arith
+
+pub number-last : {n d x y : ℕ} → n ≤ 1024 → d ≤ 65536 → x ≤ n + 1 → y ≤ n → d + x + y ≤ 100000
+number-last h k u v = omega arith

@@ -4,11 +4,11 @@ ghost use mathlib.Core.Path.{_≡_};
 ghost use mathlib.Core.Bool.{cond};
 ghost use Prim.Native.Nat.{_+_, _*_, _≤_, _<_};
 ghost use lib.ListN.{length};
-ghost use Rattle.records.specs.Records.{recordsOf, Wrote};
-ghost use Rattle.records.specs.Moves.{written};
+ghost use Rattle.records.specs.Records.{recordsOf};
 ghost use Rattle.records.specs.Pointer.{internalWord};
 ghost use Rattle.indexing.specs.Upto.{one, countTo, anyTo};
 ghost use Rattle.indexing.specs.Columns.{groupOfHead, sizesTo, needsLine, opensBucket, opensLine, linesTo, emptyList, listLines, entryAt, entries, listEntries, switchRecs};
+ghost use Rattle.index_writer.specs.Writing.{Puts};
 
 // The group of a key by its head: 1 literals, 2 list, 3 structures.
 fn group(head: u32) -> u32
@@ -170,8 +170,7 @@ fn put_entry(
     requires { ⌜ (i < length (now leaders)) × (length (now heads) ≡ length (now leaders)) × (length (now bits) ≡ length (now leaders)) × (length (now offs) ≡ length (now leaders)) × (d < 2147483648) ⌝ }
     requires { ⌜ now sizes ≡ sizesTo (now leaders) (length (now leaders)) ⌝ }
     requires { ⌜ q + length (entryAt (now leaders) (now heads) (now bits) (now offs) dynamic g d i) ≤ length (recordsOf (now index)) ⌝ }
-    ensures { λ r. ⌜ r ≡ q + length (entryAt (now (leaders .entry)) (now (heads .entry)) (now (bits .entry)) (now (offs .entry)) dynamic g d i) ⌝ }
-    ensures { λ _. ⌜ Wrote (now (index .entry)) (now (index .exit)) (written (recordsOf (now (index .entry))) q (entryAt (now (leaders .entry)) (now (heads .entry)) (now (bits .entry)) (now (offs .entry)) dynamic g d i)) ⌝ }
+    ensures { λ r. ⌜ Puts (now (index .entry)) (now (index .exit)) q r (entryAt (now (leaders .entry)) (now (heads .entry)) (now (bits .entry)) (now (offs .entry)) dynamic g d i) ⌝ }
 {
     if opens_bucket(leaders, heads, g, i) {
         let word = pointer_to(leaders, sizes, dynamic, i, d, offs[i]);
@@ -210,8 +209,7 @@ fn put_entries(
     requires { ⌜ (length (now heads) ≡ length (now leaders)) × (length (now bits) ≡ length (now leaders)) × (length (now offs) ≡ length (now leaders)) × (d + length (now leaders) < 2147483648) ⌝ }
     requires { ⌜ now sizes ≡ sizesTo (now leaders) (length (now leaders)) ⌝ }
     requires { ⌜ p + length (entries (now leaders) (now heads) (now bits) (now offs) dynamic g d) ≤ length (recordsOf (now index)) ⌝ }
-    ensures { λ r. ⌜ r ≡ p + length (entries (now (leaders .entry)) (now (heads .entry)) (now (bits .entry)) (now (offs .entry)) dynamic g d) ⌝ }
-    ensures { λ _. ⌜ Wrote (now (index .entry)) (now (index .exit)) (written (recordsOf (now (index .entry))) p (entries (now (leaders .entry)) (now (heads .entry)) (now (bits .entry)) (now (offs .entry)) dynamic g d)) ⌝ }
+    ensures { λ r. ⌜ Puts (now (index .entry)) (now (index .exit)) p r (entries (now (leaders .entry)) (now (heads .entry)) (now (bits .entry)) (now (offs .entry)) dynamic g d) ⌝ }
 {
     let mut q = p;
     let mut k = d;
@@ -251,8 +249,7 @@ fn put_list_entries(
     requires { ⌜ (length (now heads) ≡ length (now leaders)) × (length (now bits) ≡ length (now leaders)) × (length (now offs) ≡ length (now leaders)) × (d + length (now leaders) < 2147483648) ⌝ }
     requires { ⌜ now sizes ≡ sizesTo (now leaders) (length (now leaders)) ⌝ }
     requires { ⌜ p + length (listEntries (now leaders) (now heads) (now bits) (now offs) dynamic d) ≤ length (recordsOf (now index)) ⌝ }
-    ensures { λ r. ⌜ r ≡ p + length (listEntries (now (leaders .entry)) (now (heads .entry)) (now (bits .entry)) (now (offs .entry)) dynamic d) ⌝ }
-    ensures { λ _. ⌜ Wrote (now (index .entry)) (now (index .exit)) (written (recordsOf (now (index .entry))) p (listEntries (now (leaders .entry)) (now (heads .entry)) (now (bits .entry)) (now (offs .entry)) dynamic d)) ⌝ }
+    ensures { λ r. ⌜ Puts (now (index .entry)) (now (index .exit)) p r (listEntries (now (leaders .entry)) (now (heads .entry)) (now (bits .entry)) (now (offs .entry)) dynamic d) ⌝ }
 {
     if empty_list(leaders, heads, dynamic) {
         let word = records::pointer::internal(d);
@@ -290,8 +287,7 @@ pub fn put_switch(
     requires { ⌜ now sizes ≡ sizesTo (now leaders) (length (now leaders)) ⌝ }
     requires { ⌜ (length (now leaders) ≤ 1024) × (d ≤ 65536) ⌝ }
     requires { ⌜ p + length (switchRecs (now leaders) (now heads) (now bits) (now offs) dynamic arg d) ≤ length (recordsOf (now index)) ⌝ }
-    ensures { λ r. ⌜ r ≡ p + length (switchRecs (now (leaders .entry)) (now (heads .entry)) (now (bits .entry)) (now (offs .entry)) dynamic arg d) ⌝ }
-    ensures { λ _. ⌜ Wrote (now (index .entry)) (now (index .exit)) (written (recordsOf (now (index .entry))) p (switchRecs (now (leaders .entry)) (now (heads .entry)) (now (bits .entry)) (now (offs .entry)) dynamic arg d)) ⌝ }
+    ensures { λ r. ⌜ Puts (now (index .entry)) (now (index .exit)) p r (switchRecs (now (leaders .entry)) (now (heads .entry)) (now (bits .entry)) (now (offs .entry)) dynamic arg d) ⌝ }
 {
     let d3 = d + list_lines(leaders, heads, sizes, dynamic);
     let d1 = d3 + count_lines(leaders, heads, sizes, dynamic, 3);

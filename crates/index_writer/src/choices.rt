@@ -4,9 +4,9 @@ use records::Rec;
 ghost use mathlib.Core.Path.{_≡_};
 ghost use Prim.Native.Nat.{_+_, _≤_, _<_};
 ghost use lib.ListN.{length};
-ghost use Rattle.records.specs.Records.{recordsOf, Wrote};
-ghost use Rattle.records.specs.Moves.{written};
+ghost use Rattle.records.specs.Records.{recordsOf};
 ghost use Rattle.indexing.specs.Columns.{member, sizeOf, tagAt, choiceAt, choices};
+ghost use Rattle.index_writer.specs.Writing.{Puts};
 
 // Whether clause j is in the bucket that clause i leads.
 pub fn in_bucket(leaders: &[u32], i: usize, j: usize) -> bool
@@ -66,8 +66,7 @@ fn put_choice(
 ) -> usize
     requires { ⌜ (length (now offs) ≡ length (now leaders)) × (length (now tags) ≡ length (now leaders)) × (j < length (now leaders)) × (k < 65536) ⌝ }
     requires { ⌜ q + length (choiceAt (now leaders) (now offs) (now tags) dynamic default n i k j) ≤ length (recordsOf (now index)) ⌝ }
-    ensures { λ r. ⌜ r ≡ q + length (choiceAt (now (leaders .entry)) (now (offs .entry)) (now (tags .entry)) dynamic default n i k j) ⌝ }
-    ensures { λ _. ⌜ Wrote (now (index .entry)) (now (index .exit)) (written (recordsOf (now (index .entry))) q (choiceAt (now (leaders .entry)) (now (offs .entry)) (now (tags .entry)) dynamic default n i k j)) ⌝ }
+    ensures { λ r. ⌜ Puts (now (index .entry)) (now (index .exit)) q r (choiceAt (now (leaders .entry)) (now (offs .entry)) (now (tags .entry)) dynamic default n i k j) ⌝ }
 {
     if in_bucket(leaders, i, j) {
         let sub = tag(dynamic, default, tags[j], n, k);
@@ -92,8 +91,7 @@ pub fn put_choices(index: &mut [u8], p: usize, leaders: &[u32], offs: &[u32], ta
     requires { ⌜ (length (now leaders) ≤ 1024) × (length (now offs) ≡ length (now leaders)) × (length (now tags) ≡ length (now leaders)) ⌝ }
     requires { ⌜ n ≡ sizeOf (now leaders) i ⌝ }
     requires { ⌜ p + length (choices (now leaders) (now offs) (now tags) dynamic default i) ≤ length (recordsOf (now index)) ⌝ }
-    ensures { λ r. ⌜ r ≡ p + length (choices (now (leaders .entry)) (now (offs .entry)) (now (tags .entry)) dynamic default i) ⌝ }
-    ensures { λ _. ⌜ Wrote (now (index .entry)) (now (index .exit)) (written (recordsOf (now (index .entry))) p (choices (now (leaders .entry)) (now (offs .entry)) (now (tags .entry)) dynamic default i)) ⌝ }
+    ensures { λ r. ⌜ Puts (now (index .entry)) (now (index .exit)) p r (choices (now (leaders .entry)) (now (offs .entry)) (now (tags .entry)) dynamic default i) ⌝ }
 {
     let all = leaders.len();
     let mut q = p;

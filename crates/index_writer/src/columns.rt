@@ -2,7 +2,7 @@
 ghost use mathlib.Core.Path.{_≡_};
 ghost use mathlib.Core.Bool.{true, false, cond};
 ghost use Prim.Native.Nat.{_+_, _*_, _≤_, _<_};
-ghost use lib.ListN.{length, getD, replicate};
+ghost use lib.ListN.{length, getD, set, replicate};
 ghost use lib.Dec.{eqb, ltb};
 ghost use lib.Seq.{slice};
 ghost use Rattle.records.specs.Records.{recordsOf};
@@ -15,6 +15,8 @@ ghost use Rattle.indexing.specs.Upto.{one};
 ghost use Rattle.indexing.specs.Columns.{wordsOf, sameAt, leaderOf, leadersTo, sizesTo, headsTo, bitsTo, openRow, opensTo};
 ghost use Rattle.index_writer.specs.Choices.{subsOf, AllBelow, AllKnown, openNumbers};
 ghost use Rattle.indexing.specs.Expanding.{ColumnsOf};
+ghost use Rattle.indexing.specs.Chains.{Chained};
+ghost use Rattle.index_writer.specs.Chains.{bucketOf, bucketAt, leadsIn};
 
 // A key as two numbers: its sort and arity in one, and its bits.
 struct KeyNumbers {
@@ -48,8 +50,8 @@ fn leader_of(heads: &[u32], bits: &[u64], j: usize) -> u32
     j as u32
 }
 
-// The leader of each clause: the place of the first clause with an equal key.
-pub fn find_leaders(heads: &[u32], bits: &[u64], leaders: &mut [u32])
+// The leader of each clause, each searched from the first clause on.
+fn search_leaders(heads: &[u32], bits: &[u64], leaders: &mut [u32])
     requires { ⌜ (length (now bits) ≡ length (now heads)) × (length (now leaders) ≡ length (now heads)) × (length (now heads) ≤ 1024) ⌝ }
     ensures { λ _. ⌜ now (leaders .exit) ≡ leadersTo (now (heads .entry)) (now (bits .entry)) (length (now (heads .entry))) ⌝ }
 {
@@ -58,6 +60,99 @@ pub fn find_leaders(heads: &[u32], bits: &[u64], leaders: &mut [u32])
     while j < n {
         leaders[j] = leader_of(heads, bits, j);
         j += 1;
+    }
+}
+
+// The bucket of a key: of its numbers alone, so that equal keys have the same.
+fn bucket_of(head: u32, bits: u64) -> usize
+    ensures { λ b. ⌜ (b ≡ bucketOf head bits) × (b < 1021) ⌝ }
+{
+    ((bits % 4294967291 + 40503 * (head as u64)) % 1021) as usize
+}
+
+// The leader of clause j: the leaders before it in its bucket are looked at, one by one. Where 32 of them do not decide it, it is searched
+// from the first clause on: a crowded bucket costs little more than no buckets.
+fn chained_leader(
+    heads: &[u32],
+    bits: &[u64],
+    j: usize,
+    bucket: usize,
+    firsts: &[u16],
+    links: &[u16],
+) -> u32
+    requires { ⌜ (j < length (now heads)) × (length (now bits) ≡ length (now heads)) × (length (now heads) ≤ 1024) ⌝ }
+    requires { ⌜ (bucket ≡ bucketAt (now heads) (now bits) j) × (bucket < length (now firsts)) × (j ≤ length (now links)) ⌝ }
+    requires { ⌜ Chained (leadsIn (now heads) (now bits)) (now firsts) (now links) j ⌝ }
+    ensures { λ r. ⌜ r ≡ leaderOf (now (heads .entry)) (now (bits .entry)) j ⌝ }
+{
+    let mut number = firsts[bucket] as usize;
+    let mut steps = 0usize;
+    while 0 < number {
+        if steps == 32 {
+            return leader_of(heads, bits, j);
+        }
+        let i = number - 1;
+        if same_at(heads, bits, i, j) {
+            return i as u32;
+        }
+        number = links[i] as usize;
+        steps += 1;
+    }
+    j as u32
+}
+
+// A clause that leads becomes the first of its bucket. A bucket holds the number of its first clause, counted from 1 (0: none), a link
+// that of the next one in the same bucket.
+fn push(firsts: &mut [u16], links: &mut [u16], bucket: usize, j: usize)
+    requires { ⌜ (bucket < length (now firsts)) × (j < length (now links)) × (j < 1024) ⌝ }
+    ensures { λ _. ⌜ now (firsts .exit) ≡ set (now (firsts .entry)) bucket (j + 1) ⌝ }
+    ensures { λ _. ⌜ now (links .exit) ≡ set (now (links .entry)) j (getD (now (firsts .entry)) bucket 0) ⌝ }
+{
+    links[j] = firsts[bucket];
+    firsts[bucket] = (j + 1) as u16;
+}
+
+// The leader of clause j, which joins its bucket if it leads itself.
+fn next_leader(heads: &[u32], bits: &[u64], j: usize, firsts: &mut [u16], links: &mut [u16]) -> u32
+    requires { ⌜ (j < length (now heads)) × (length (now bits) ≡ length (now heads)) × (length (now heads) ≤ 1024) ⌝ }
+    requires { ⌜ (length (now firsts) ≡ 1021) × (length (now links) ≡ 1024) ⌝ }
+    requires { ⌜ Chained (leadsIn (now heads) (now bits)) (now firsts) (now links) j ⌝ }
+    ensures { λ r. ⌜ r ≡ leaderOf (now (heads .entry)) (now (bits .entry)) j ⌝ }
+    ensures { λ _. ⌜ Chained (leadsIn (now (heads .entry)) (now (bits .entry))) (now (firsts .exit)) (now (links .exit)) (j + 1) ⌝ }
+{
+    let bucket = bucket_of(heads[j], bits[j]);
+    let leader = chained_leader(heads, bits, j, bucket, firsts, links);
+    let own = j as u32;
+    if leader == own {
+        push(firsts, links, bucket, j);
+    }
+    leader
+}
+
+// The leader of each clause, searched among those in its bucket.
+fn chain_leaders(heads: &[u32], bits: &[u64], leaders: &mut [u32])
+    requires { ⌜ (length (now bits) ≡ length (now heads)) × (length (now leaders) ≡ length (now heads)) × (length (now heads) ≤ 1024) ⌝ }
+    ensures { λ _. ⌜ now (leaders .exit) ≡ leadersTo (now (heads .entry)) (now (bits .entry)) (length (now (heads .entry))) ⌝ }
+{
+    let mut firsts = [0u16; 1021];
+    let mut links = [0u16; 1024];
+    let n = heads.len();
+    let mut j = 0;
+    while j < n {
+        leaders[j] = next_leader(heads, bits, j, &mut firsts, &mut links);
+        j += 1;
+    }
+}
+
+// The leader of each clause: the place of the first clause with an equal key. Few clauses are searched from the first on, more by buckets.
+pub fn find_leaders(heads: &[u32], bits: &[u64], leaders: &mut [u32])
+    requires { ⌜ (length (now bits) ≡ length (now heads)) × (length (now leaders) ≡ length (now heads)) × (length (now heads) ≤ 1024) ⌝ }
+    ensures { λ _. ⌜ now (leaders .exit) ≡ leadersTo (now (heads .entry)) (now (bits .entry)) (length (now (heads .entry))) ⌝ }
+{
+    if heads.len() <= 32 {
+        search_leaders(heads, bits, leaders);
+    } else {
+        chain_leaders(heads, bits, leaders);
     }
 }
 

@@ -7,10 +7,10 @@ ghost use mathlib.Core.Bool.{cond};
 ghost use mathlib.Core.List.{List, [], _∷_};
 ghost use Prim.Native.Nat.{ℕ, _+_, _-_, _*_, _≤_, _<_};
 ghost use lib.ListN.{length, getD};
-ghost use Rattle.records.specs.Records.{rec, recordsOf, Wrote};
-ghost use Rattle.records.specs.Moves.{written};
+ghost use Rattle.records.specs.Records.{rec, recordsOf};
 ghost use Rattle.indexing.specs.Upto.{countTo, anyTo};
 ghost use Rattle.indexing.specs.Columns.{openMember, deadClauses, tableAt, tablesAt, deadRecs};
+ghost use Rattle.index_writer.specs.Writing.{Puts};
 
 // Whether clause j is in the bucket that clause i leads and has no key at argument b.
 fn open_member(leaders: &[u32], opens: &[u8], i: usize, b: u32, j: usize) -> bool
@@ -66,8 +66,7 @@ fn put_dead_clause(index: &mut [u8], q: usize, leaders: &[u32], opens: &[u8], of
     requires { ⌜ (length (now leaders) ≤ 1024) × (length (now opens) ≡ 32 * length (now leaders)) × (length (now offs) ≡ length (now leaders)) ⌝ }
     requires { ⌜ (1 ≤ b) × (b ≤ 32) × (j < length (now leaders)) ⌝ }
     requires { ⌜ q + length (cond (openMember (now leaders) (now opens) (now offs) i b j) (rec 7 0 0 (getD (now offs) j 0) 0 ∷ []) []) ≤ length (recordsOf (now index)) ⌝ }
-    ensures { λ r. ⌜ r ≡ q + length (cond (openMember (now (leaders .entry)) (now (opens .entry)) (now (offs .entry)) i b j) (rec 7 0 0 (getD (now (offs .entry)) j 0) 0 ∷ []) []) ⌝ }
-    ensures { λ _. ⌜ Wrote (now (index .entry)) (now (index .exit)) (written (recordsOf (now (index .entry))) q (cond (openMember (now (leaders .entry)) (now (opens .entry)) (now (offs .entry)) i b j) (rec 7 0 0 (getD (now (offs .entry)) j 0) 0 ∷ []) [])) ⌝ }
+    ensures { λ r. ⌜ Puts (now (index .entry)) (now (index .exit)) q r (cond (openMember (now (leaders .entry)) (now (opens .entry)) (now (offs .entry)) i b j) (rec 7 0 0 (getD (now (offs .entry)) j 0) 0 ∷ []) []) ⌝ }
 {
     if open_member(leaders, opens, i, b, j) {
         records::put(
@@ -91,8 +90,7 @@ fn put_dead_clauses(index: &mut [u8], p: usize, leaders: &[u32], opens: &[u8], o
     requires { ⌜ (length (now leaders) ≤ 1024) × (length (now opens) ≡ 32 * length (now leaders)) × (length (now offs) ≡ length (now leaders)) ⌝ }
     requires { ⌜ (1 ≤ b) × (b ≤ 32) ⌝ }
     requires { ⌜ p + length (deadClauses (now leaders) (now opens) (now offs) i b) ≤ length (recordsOf (now index)) ⌝ }
-    ensures { λ r. ⌜ r ≡ p + length (deadClauses (now (leaders .entry)) (now (opens .entry)) (now (offs .entry)) i b) ⌝ }
-    ensures { λ _. ⌜ Wrote (now (index .entry)) (now (index .exit)) (written (recordsOf (now (index .entry))) p (deadClauses (now (leaders .entry)) (now (opens .entry)) (now (offs .entry)) i b)) ⌝ }
+    ensures { λ r. ⌜ Puts (now (index .entry)) (now (index .exit)) p r (deadClauses (now (leaders .entry)) (now (opens .entry)) (now (offs .entry)) i b) ⌝ }
 {
     let n = leaders.len();
     let mut q = p;
@@ -109,8 +107,7 @@ fn put_dead_table(index: &mut [u8], p: usize, leaders: &[u32], opens: &[u8], off
     requires { ⌜ (length (now leaders) ≤ 1024) × (length (now opens) ≡ 32 * length (now leaders)) × (length (now offs) ≡ length (now leaders)) ⌝ }
     requires { ⌜ (1 ≤ b) × (b ≤ 32) ⌝ }
     requires { ⌜ p + length (rec 4 0 b 0 0 ∷ deadClauses (now leaders) (now opens) (now offs) i b) ≤ length (recordsOf (now index)) ⌝ }
-    ensures { λ r. ⌜ r ≡ p + length (rec 4 0 b 0 0 ∷ deadClauses (now (leaders .entry)) (now (opens .entry)) (now (offs .entry)) i b) ⌝ }
-    ensures { λ _. ⌜ Wrote (now (index .entry)) (now (index .exit)) (written (recordsOf (now (index .entry))) p (rec 4 0 b 0 0 ∷ deadClauses (now (leaders .entry)) (now (opens .entry)) (now (offs .entry)) i b)) ⌝ }
+    ensures { λ r. ⌜ Puts (now (index .entry)) (now (index .exit)) p r (rec 4 0 b 0 0 ∷ deadClauses (now (leaders .entry)) (now (opens .entry)) (now (offs .entry)) i b) ⌝ }
 {
     records::put(
         index,
@@ -131,8 +128,7 @@ fn put_table(index: &mut [u8], p: usize, leaders: &[u32], opens: &[u8], offs: &[
     requires { ⌜ (length (now leaders) ≤ 1024) × (length (now opens) ≡ 32 * length (now leaders)) × (length (now offs) ≡ length (now leaders)) ⌝ }
     requires { ⌜ (1 ≤ b) × (b ≤ 32) ⌝ }
     requires { ⌜ p + length (tableAt (now leaders) (now opens) (now offs) mask extensible i b) ≤ length (recordsOf (now index)) ⌝ }
-    ensures { λ r. ⌜ r ≡ p + length (tableAt (now (leaders .entry)) (now (opens .entry)) (now (offs .entry)) mask extensible i b) ⌝ }
-    ensures { λ _. ⌜ Wrote (now (index .entry)) (now (index .exit)) (written (recordsOf (now (index .entry))) p (tableAt (now (leaders .entry)) (now (opens .entry)) (now (offs .entry)) mask extensible i b)) ⌝ }
+    ensures { λ r. ⌜ Puts (now (index .entry)) (now (index .exit)) p r (tableAt (now (leaders .entry)) (now (opens .entry)) (now (offs .entry)) mask extensible i b) ⌝ }
 {
     if indexing::masked(mask, b) {
         return p;
@@ -162,8 +158,7 @@ pub fn put_tables(index: &mut [u8], p: usize, leaders: &[u32], opens: &[u8], off
     requires { ⌜ (length (now leaders) ≤ 1024) × (length (now opens) ≡ 32 * length (now leaders)) × (length (now offs) ≡ length (now leaders)) ⌝ }
     requires { ⌜ (1 ≤ b) × (b + k ≤ 33) ⌝ }
     requires { ⌜ p + length (tablesAt (now leaders) (now opens) (now offs) mask extensible i b k) ≤ length (recordsOf (now index)) ⌝ }
-    ensures { λ r. ⌜ r ≡ p + length (tablesAt (now (leaders .entry)) (now (opens .entry)) (now (offs .entry)) mask extensible i b k) ⌝ }
-    ensures { λ _. ⌜ Wrote (now (index .entry)) (now (index .exit)) (written (recordsOf (now (index .entry))) p (tablesAt (now (leaders .entry)) (now (opens .entry)) (now (offs .entry)) mask extensible i b k)) ⌝ }
+    ensures { λ r. ⌜ Puts (now (index .entry)) (now (index .exit)) p r (tablesAt (now (leaders .entry)) (now (opens .entry)) (now (offs .entry)) mask extensible i b k) ⌝ }
 {
     let mut q = p;
     let mut t = 0;
@@ -214,8 +209,7 @@ pub fn put_dead(index: &mut [u8], p: usize, zeros: &[u32], opens: &[u8], offs: &
     requires { ⌜ (length (now zeros) ≤ 1024) × (length (now opens) ≡ 32 * length (now zeros)) × (length (now offs) ≡ length (now zeros)) ⌝ }
     requires { ⌜ (1 ≤ arg) × (arg ≤ 32) ⌝ }
     requires { ⌜ p + length (deadRecs (now zeros) (now opens) (now offs) arg) ≤ length (recordsOf (now index)) ⌝ }
-    ensures { λ r. ⌜ r ≡ p + length (deadRecs (now (zeros .entry)) (now (opens .entry)) (now (offs .entry)) arg) ⌝ }
-    ensures { λ _. ⌜ Wrote (now (index .entry)) (now (index .exit)) (written (recordsOf (now (index .entry))) p (deadRecs (now (zeros .entry)) (now (opens .entry)) (now (offs .entry)) arg)) ⌝ }
+    ensures { λ r. ⌜ Puts (now (index .entry)) (now (index .exit)) p r (deadRecs (now (zeros .entry)) (now (opens .entry)) (now (offs .entry)) arg) ⌝ }
 {
     put_dead_table(index, p, zeros, opens, offs, 0, arg)
 }

@@ -12,14 +12,14 @@ ghost use lib.ListN.{length};
 ghost use Rattle.records.specs.Records.{recordsOf, Wrote};
 ghost use Rattle.records.specs.Moves.{written};
 ghost use Rattle.indexing.specs.Columns.{sizesTo, tablesAt, choices, lineOf, lineAt, groupLines, listLine, newLinesRecs, seedRecs};
+ghost use Rattle.index_writer.specs.Writing.{Puts};
 
 // Writes what stands behind the line record of the bucket that clause i leads: the tables for the arguments after arg, and the offsets.
 fn put_rest(index: &mut [u8], p: usize, leaders: &[u32], opens: &[u8], offs: &[u32], tags: &[u8], settings: Settings, arg: u32, i: usize) -> usize
     requires { ⌜ (length (now leaders) ≤ 1024) × (length (now opens) ≡ 32 * length (now leaders)) × (length (now offs) ≡ length (now leaders)) × (length (now tags) ≡ length (now leaders)) ⌝ }
     requires { ⌜ (arg ≤ settings .arity) × (settings .arity ≤ 32) ⌝ }
     requires { ⌜ p + length (tablesAt (now leaders) (now opens) (now offs) (settings .mask) (settings .extensible) i (arg + 1) (settings .arity - arg) ++ choices (now leaders) (now offs) (now tags) (settings .dynamic) (settings .«non_counted») i) ≤ length (recordsOf (now index)) ⌝ }
-    ensures { λ r. ⌜ r ≡ p + length (tablesAt (now (leaders .entry)) (now (opens .entry)) (now (offs .entry)) (settings .mask) (settings .extensible) i (arg + 1) (settings .arity - arg) ++ choices (now (leaders .entry)) (now (offs .entry)) (now (tags .entry)) (settings .dynamic) (settings .«non_counted») i) ⌝ }
-    ensures { λ _. ⌜ Wrote (now (index .entry)) (now (index .exit)) (written (recordsOf (now (index .entry))) p (tablesAt (now (leaders .entry)) (now (opens .entry)) (now (offs .entry)) (settings .mask) (settings .extensible) i (arg + 1) (settings .arity - arg) ++ choices (now (leaders .entry)) (now (offs .entry)) (now (tags .entry)) (settings .dynamic) (settings .«non_counted») i)) ⌝ }
+    ensures { λ r. ⌜ Puts (now (index .entry)) (now (index .exit)) p r (tablesAt (now (leaders .entry)) (now (opens .entry)) (now (offs .entry)) (settings .mask) (settings .extensible) i (arg + 1) (settings .arity - arg) ++ choices (now (leaders .entry)) (now (offs .entry)) (now (tags .entry)) (settings .dynamic) (settings .«non_counted») i) ⌝ }
 {
     let mask = settings.mask;
     let extensible = settings.extensible;
@@ -36,8 +36,7 @@ fn put_line(index: &mut [u8], p: usize, leaders: &[u32], opens: &[u8], offs: &[u
     requires { ⌜ (length (now leaders) ≤ 1024) × (length (now opens) ≡ 32 * length (now leaders)) × (length (now offs) ≡ length (now leaders)) × (length (now tags) ≡ length (now leaders)) ⌝ }
     requires { ⌜ (arg ≤ settings .arity) × (settings .arity ≤ 32) ⌝ }
     requires { ⌜ p + length (lineOf (now leaders) [] (now opens) (now offs) (now tags) settings arg number i) ≤ length (recordsOf (now index)) ⌝ }
-    ensures { λ r. ⌜ r ≡ p + length (lineOf (now (leaders .entry)) [] (now (opens .entry)) (now (offs .entry)) (now (tags .entry)) settings arg number i) ⌝ }
-    ensures { λ _. ⌜ Wrote (now (index .entry)) (now (index .exit)) (written (recordsOf (now (index .entry))) p (lineOf (now (leaders .entry)) [] (now (opens .entry)) (now (offs .entry)) (now (tags .entry)) settings arg number i)) ⌝ }
+    ensures { λ r. ⌜ Puts (now (index .entry)) (now (index .exit)) p r (lineOf (now (leaders .entry)) [] (now (opens .entry)) (now (offs .entry)) (now (tags .entry)) settings arg number i) ⌝ }
 {
     let sub = indexing::mode_of(settings.dynamic);
     records::put(
@@ -108,8 +107,7 @@ fn put_line_at(
     requires { ⌜ now sizes ≡ sizesTo (now leaders) (length (now leaders)) ⌝ }
     requires { ⌜ (arg ≤ settings .arity) × (settings .arity ≤ 32) × (i < length (now leaders)) ⌝ }
     requires { ⌜ p + length (lineAt (now leaders) (now heads) (now opens) (now offs) (now tags) settings arg g number i) ≤ length (recordsOf (now index)) ⌝ }
-    ensures { λ r. ⌜ r ≡ p + length (lineAt (now (leaders .entry)) (now (heads .entry)) (now (opens .entry)) (now (offs .entry)) (now (tags .entry)) settings arg g number i) ⌝ }
-    ensures { λ _. ⌜ Wrote (now (index .entry)) (now (index .exit)) (written (recordsOf (now (index .entry))) p (lineAt (now (leaders .entry)) (now (heads .entry)) (now (opens .entry)) (now (offs .entry)) (now (tags .entry)) settings arg g number i)) ⌝ }
+    ensures { λ r. ⌜ Puts (now (index .entry)) (now (index .exit)) p r (lineAt (now (leaders .entry)) (now (heads .entry)) (now (opens .entry)) (now (offs .entry)) (now (tags .entry)) settings arg g number i) ⌝ }
 {
     if buckets::opens_line(leaders, heads, sizes, settings.dynamic, g, i) {
         return put_line(index, p, leaders, opens, offs, tags, settings, arg, number, i);
@@ -136,8 +134,7 @@ fn put_group(
     requires { ⌜ now sizes ≡ sizesTo (now leaders) (length (now leaders)) ⌝ }
     requires { ⌜ (arg ≤ settings .arity) × (settings .arity ≤ 32) × (first ≤ 100000) ⌝ }
     requires { ⌜ p + length (groupLines (now leaders) (now heads) (now opens) (now offs) (now tags) settings arg g first) ≤ length (recordsOf (now index)) ⌝ }
-    ensures { λ r. ⌜ r ≡ p + length (groupLines (now (leaders .entry)) (now (heads .entry)) (now (opens .entry)) (now (offs .entry)) (now (tags .entry)) settings arg g first) ⌝ }
-    ensures { λ _. ⌜ Wrote (now (index .entry)) (now (index .exit)) (written (recordsOf (now (index .entry))) p (groupLines (now (leaders .entry)) (now (heads .entry)) (now (opens .entry)) (now (offs .entry)) (now (tags .entry)) settings arg g first)) ⌝ }
+    ensures { λ r. ⌜ Puts (now (index .entry)) (now (index .exit)) p r (groupLines (now (leaders .entry)) (now (heads .entry)) (now (opens .entry)) (now (offs .entry)) (now (tags .entry)) settings arg g first) ⌝ }
 {
     let n = leaders.len();
     let mut q = p;
@@ -169,8 +166,7 @@ fn put_list_line(
     requires { ⌜ now sizes ≡ sizesTo (now leaders) (length (now leaders)) ⌝ }
     requires { ⌜ (arg ≤ settings .arity) × (settings .arity ≤ 32) × (number ≤ 100000) ⌝ }
     requires { ⌜ p + length (listLine (now leaders) (now heads) (now opens) (now offs) (now tags) settings arg number) ≤ length (recordsOf (now index)) ⌝ }
-    ensures { λ r. ⌜ r ≡ p + length (listLine (now (leaders .entry)) (now (heads .entry)) (now (opens .entry)) (now (offs .entry)) (now (tags .entry)) settings arg number) ⌝ }
-    ensures { λ _. ⌜ Wrote (now (index .entry)) (now (index .exit)) (written (recordsOf (now (index .entry))) p (listLine (now (leaders .entry)) (now (heads .entry)) (now (opens .entry)) (now (offs .entry)) (now (tags .entry)) settings arg number)) ⌝ }
+    ensures { λ r. ⌜ Puts (now (index .entry)) (now (index .exit)) p r (listLine (now (leaders .entry)) (now (heads .entry)) (now (opens .entry)) (now (offs .entry)) (now (tags .entry)) settings arg number) ⌝ }
 {
     if buckets::empty_list(leaders, heads, settings.dynamic) {
         let n = leaders.len();
@@ -197,8 +193,7 @@ pub fn put_new_lines(
     requires { ⌜ now sizes ≡ sizesTo (now leaders) (length (now leaders)) ⌝ }
     requires { ⌜ (1 ≤ arg) × (arg ≤ settings .arity) × (settings .arity ≤ 32) × (number ≤ 65536) ⌝ }
     requires { ⌜ p + length (newLinesRecs (now leaders) (now heads) (now opens) (now offs) (now tags) settings arg number) ≤ length (recordsOf (now index)) ⌝ }
-    ensures { λ r. ⌜ r ≡ p + length (newLinesRecs (now (leaders .entry)) (now (heads .entry)) (now (opens .entry)) (now (offs .entry)) (now (tags .entry)) settings arg number) ⌝ }
-    ensures { λ _. ⌜ Wrote (now (index .entry)) (now (index .exit)) (written (recordsOf (now (index .entry))) p (newLinesRecs (now (leaders .entry)) (now (heads .entry)) (now (opens .entry)) (now (offs .entry)) (now (tags .entry)) settings arg number)) ⌝ }
+    ensures { λ r. ⌜ Puts (now (index .entry)) (now (index .exit)) p r (newLinesRecs (now (leaders .entry)) (now (heads .entry)) (now (opens .entry)) (now (offs .entry)) (now (tags .entry)) settings arg number) ⌝ }
 {
     let dynamic = settings.dynamic;
     let structures = number + buckets::list_lines(leaders, heads, sizes, dynamic);

@@ -20,3 +20,4 @@ pub mod BridgeLines
 pub mod BridgeExpand
 pub mod Sample
 pub mod Listing
+pub mod Chains

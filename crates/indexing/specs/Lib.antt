@@ -7,3 +7,4 @@ pub mod Builder
 pub mod Upto
 pub mod Columns
 pub mod Expanding
+pub mod Chains

@@ -8,7 +8,8 @@ ghost use lib.ListN.{length, getD, set};
 ghost use lib.Seq.{slice};
 ghost use Rattle.records.specs.Records.{recordsOf, none};
 ghost use Rattle.well_formed.specs.Pass.{sameFields, among, distinctKeys};
-ghost use Rattle.well_formed.specs.Chains.{bucketOf, Cleared, Chained};
+ghost use Rattle.indexing.specs.Chains.{Chained};
+ghost use Rattle.well_formed.specs.Chains.{bucketOf, inBucket, Cleared};
 
 // Whether two entries have equal keys.
 fn same_fields(r: Rec, q: Rec) -> bool
@@ -93,7 +94,7 @@ fn key_chained(
 ) -> bool
     requires { ⌜ (at < to) × (to ≤ length (recordsOf (now index))) × (to - at ≤ length (now links)) ⌝ }
     requires { ⌜ (bucket ≡ bucketOf (length (now heads)) (getD (recordsOf (now index)) at none)) × (bucket < length (now heads)) ⌝ }
-    requires { ⌜ Chained (now heads) (now links) (slice (at + 1) to (recordsOf (now index))) ⌝ }
+    requires { ⌜ Chained (inBucket (length (now heads)) (recordsOf (now index)) to) (now heads) (now links) (to - (at + 1)) ⌝ }
     ensures { λ b. ⌜ b ≡ among (getD (recordsOf (now (index .entry))) at none) (slice (at + 1) to (recordsOf (now (index .entry)))) ⌝ }
 {
     let r = records::get(index, at);

@@ -1,12 +1,14 @@
 -- `buckets::put_switch` writes the switch and its entries, by literals, list, structures. Assumes nothing.
 use mathlib.Core.Path.{ap}
+use mathlib.Core.List.{List, _∷_, _++_}
 use Prim.Native.Nat.{ℕ, _+_}
 use native.Mathlib.Omega.{arith}
+use Rattle.records.specs.declared.Rec.{Rec}
 use Rattle.records.specs.Records.{rec}
 use Rattle.records.proofs.Laws.{length-recordsOf}
-use Rattle.records.proofs.Grown.{grow-start, grow-one, grow-run, grow-end, grow-as}
-use Rattle.indexing.specs.Columns.{entries, listEntries}
-use Rattle.index_writer.proofs.BucketLaws.{length-entries, length-list, length-switch, switch-parts}
+use Rattle.indexing.specs.Columns.{entries, listEntries, switchRecs}
+use Rattle.index_writer.proofs.Left.{Left, left-start, left-place, left-room, left-one, left-run, left-all}
+use Rattle.index_writer.proofs.BucketLaws.{switch-parts, distance-first, distance-next, distance-small}
 use borrow.Author.Needs.{needs}
 use Rattle.index_writer.proofs.buckets.put_switch.Statement.{statement}
 use Rattle.index_writer.proofs.buckets.put_switch.Tie as tie
@@ -23,104 +25,99 @@ count-lines-requires c κs = search needs
 add-d1 : tie.Need-add-d1
 add-d1 c = search needs
 
-put-requires : tie.Need-put-requires
-put-requires c κs =
-    let s = c .before .before .before .before .before .before .before .before .before in
+-- the three groups of entries
+abbrev literals : tie.After-count-lines → List Rec
+literals c =
+    let ll = c .before in
+    let a = ll .before .before .before .before .before .before .before .args in
+    entries (a .leaders .now) (a .heads .now) (a .bits .now) (a .offs .now) (a .dynamic) 1 (a .d + ll .list-lines .result + c .count-lines .result)
+
+abbrev lists : tie.After-count-lines → List Rec
+lists c =
+    let a = c .before .before .before .before .before .before .before .before .args in
+    listEntries (a .leaders .now) (a .heads .now) (a .bits .now) (a .offs .now) (a .dynamic) (a .d)
+
+abbrev structures : tie.After-count-lines → List Rec
+structures c =
+    let ll = c .before in
+    let a = ll .before .before .before .before .before .before .before .args in
+    entries (a .leaders .now) (a .heads .now) (a .bits .now) (a .offs .now) (a .dynamic) 3 (a .d + ll .list-lines .result)
+
+-- the switch is written once rest is written into b from place q on
+abbrev SwitchLeft : tie.After-count-lines → ℕ → List Rec → List ℕ → Type 0
+SwitchLeft c q rest b =
+    let a = c .before .before .before .before .before .before .before .before .args in
+    Left (a .index .now) (a .p) (switchRecs (a .leaders .now) (a .heads .now) (a .bits .now) (a .offs .now) (a .dynamic) (a .arg) (a .d)) q rest b
+
+begin : (c : tie.After-count-lines)
+    → let a = c .before .before .before .before .before .before .before .before .args in
+    SwitchLeft c (a .p) (rec 2 0 (a .arg) 0 0 ∷ (literals c ++ (lists c ++ structures c))) (a .index .now)
+begin c =
+    let ll = c .before in
+    let s = ll .before .before .before .before .before .before .before in
     let a = s .args in
-    let w = length-switch (a .leaders .now) (a .heads .now) (a .bits .now) (a .offs .now) (a .dynamic) (a .arg) (a .d) in
-    omega arith
+    left-start (a .index .now) (a .p) _ _
+    (switch-parts (a .leaders .now) (a .heads .now) (a .bits .now) (a .offs .now) (a .dynamic) (a .arg) (a .d) _ _
+    (ap (λ (x : ℕ). a .d + x) (ll .list-lines .ensures .0))
+    (ap (λ (x : ℕ). a .d + ll .list-lines .result + x) (c .count-lines .ensures .0)))
+    (s .pre .1 .1 .1)
+
+after-switch : (c : tie.After-put)
+    → let k = c .before .before in
+    SwitchLeft k (k .before .before .before .before .before .before .before .before .args .p + 1) (literals k ++ (lists k ++ structures k)) (c .put .last .0)
+after-switch c =
+    let k = c .before .before in
+    left-one (c .put .last .0) _ _ (begin k) (c .put .kept .0) (c .put .ensures)
+
+after-literals : (c : tie.After-put-entries)
+    → let k = c .before .before .before .before .before .before in
+    SwitchLeft k (c .put-entries .result) (lists k ++ structures k) (c .put-entries .last .0)
+after-literals c =
+    let w = c .put-entries in
+    let k = c .before .before .before .before .before .before in
+    left-run (w .last .0) (w .result) (literals k) (lists k ++ structures k) (after-switch (c .before .before .before .before)) (w .ensures .0) (w .kept .0) (w .ensures .1)
+
+after-lists : (c : tie.After-put-list-entries)
+    → let k = c .before .before .before .before .before .before .before .before .before .before in
+    SwitchLeft k (c .put-list-entries .result) (structures k) (c .put-list-entries .last .0)
+after-lists c =
+    let w = c .put-list-entries in
+    let k = c .before .before .before .before .before .before .before .before .before .before in
+    left-run (w .last .0) (w .result) (lists k) (structures k) (after-literals (c .before .before .before .before)) (w .ensures .0) (w .kept .0) (w .ensures .1)
+
+put-requires : tie.Need-put-requires
+put-requires c κs = left-place _ _ (begin (c .before))
 
 add-q : tie.Need-add-q
-add-q c =
-    let s = c .before .before .before .before .before .before .before .before .before .before .before .before in
-    let a = s .args in
-    let w = length-switch (a .leaders .now) (a .heads .now) (a .bits .now) (a .offs .now) (a .dynamic) (a .arg) (a .d) in
-    omega (arith, length-recordsOf (a .index .now))
+add-q c = omega (arith, left-place _ _ (begin (c .before .before .before .before)), length-recordsOf (c .before .before .before .before .before .before .before .before .before .before .before .before .args .index .now))
 
 put-entries-requires : tie.Need-put-entries-requires
 put-entries-requires c κs =
-    let p0 = c .before .before .before in
-    let cl = p0 .before .before in
-    let ll = cl .before in
-    let s = ll .before .before .before .before .before .before .before in
-    let a = s .args in
-    let w = length-switch (a .leaders .now) (a .heads .now) (a .bits .now) (a .offs .now) (a .dynamic) (a .arg) (a .d) in
-    let d3 : ℕ = a .d + ll .list-lines .result in
-    let d1 : ℕ = d3 + cl .count-lines .result in
-    let e1 = length-entries (a .leaders .now) (a .heads .now) (a .bits .now) (a .offs .now) (a .dynamic) 1 d1 in
-    (omega arith, (search needs, omega arith))
+    let k = c .before .before .before .before .before in
+    let s = k .before .before .before .before .before .before .before .before in
+    let small = distance-small (s .pre .1 .1 .0 .0) (s .pre .1 .1 .0 .1) (k .before .list-lines .ensures .1) (k .count-lines .ensures .1) in
+    ((s .pre .0 .0, s .pre .0 .1, s .pre .0 .2, small), (s .pre .1 .0, left-room (literals k) (lists k ++ structures k) (after-switch (c .before .before .before))))
 
 put-list-entries-requires : tie.Need-put-list-entries-requires
 put-list-entries-requires c κs =
-    let p1 = c .before .before .before in
-    let p0 = p1 .before .before .before .before in
-    let cl = p0 .before .before in
-    let ll = cl .before in
-    let s = ll .before .before .before .before .before .before .before in
-    let a = s .args in
-    let w = length-switch (a .leaders .now) (a .heads .now) (a .bits .now) (a .offs .now) (a .dynamic) (a .arg) (a .d) in
-    let d3 : ℕ = a .d + ll .list-lines .result in
-    let d1 : ℕ = d3 + cl .count-lines .result in
-    let e1 = length-entries (a .leaders .now) (a .heads .now) (a .bits .now) (a .offs .now) (a .dynamic) 1 d1 in
-    let e2 = length-list (a .leaders .now) (a .heads .now) (a .bits .now) (a .offs .now) (a .dynamic) (a .d) in
-    (omega arith, (search needs, omega (arith, s, p1 .put-entries, p0 .put)))
+    let k = c .before .before .before .before .before .before .before .before .before in
+    let s = k .before .before .before .before .before .before .before .before in
+    ((s .pre .0 .0, s .pre .0 .1, s .pre .0 .2, distance-first (s .pre .1 .1 .0 .0) (s .pre .1 .1 .0 .1)), (s .pre .1 .0, left-room (lists k) (structures k) (after-literals (c .before .before .before))))
 
 put-entries-requires-2 : tie.Need-put-entries-requires-2
 put-entries-requires-2 c κs =
-    let p2 = c .before .before .before in
-    let p1 = p2 .before .before .before .before in
-    let p0 = p1 .before .before .before .before in
-    let cl = p0 .before .before in
-    let ll = cl .before in
-    let s = ll .before .before .before .before .before .before .before in
-    let a = s .args in
-    let w = length-switch (a .leaders .now) (a .heads .now) (a .bits .now) (a .offs .now) (a .dynamic) (a .arg) (a .d) in
-    let d3 : ℕ = a .d + ll .list-lines .result in
-    let d1 : ℕ = d3 + cl .count-lines .result in
-    let e1 = length-entries (a .leaders .now) (a .heads .now) (a .bits .now) (a .offs .now) (a .dynamic) 1 d1 in
-    let e2 = length-list (a .leaders .now) (a .heads .now) (a .bits .now) (a .offs .now) (a .dynamic) (a .d) in
-    let e3 = length-entries (a .leaders .now) (a .heads .now) (a .bits .now) (a .offs .now) (a .dynamic) 3 d3 in
-    (omega (arith, s, ll .list-lines), (search needs, omega (arith, s, p2 .put-list-entries, p1 .put-entries, p0 .put)))
+    let k = c .before .before .before .before .before .before .before .before .before .before .before .before .before in
+    let s = k .before .before .before .before .before .before .before .before in
+    let small = distance-next (s .pre .1 .1 .0 .0) (s .pre .1 .1 .0 .1) (k .before .list-lines .ensures .1) in
+    ((s .pre .0 .0, s .pre .0 .1, s .pre .0 .2, small), (s .pre .1 .0, after-lists (c .before .before .before) .room))
 
 same-length : tie.Need-same-length
 same-length c = search needs
 
 returns : tie.Need-returns
 returns c =
-    let p3 = c .before .before in
-    let p2 = p3 .before .before .before .before in
-    let p1 = p2 .before .before .before .before in
-    let p0 = p1 .before .before .before .before in
-    let cl = p0 .before .before in
-    let ll = cl .before in
-    let s = ll .before .before .before .before .before .before .before in
-    let a = s .args in
-    let w = length-switch (a .leaders .now) (a .heads .now) (a .bits .now) (a .offs .now) (a .dynamic) (a .arg) (a .d) in
-    let d3 : ℕ = a .d + ll .list-lines .result in
-    let d1 : ℕ = d3 + cl .count-lines .result in
-    let e1 = length-entries (a .leaders .now) (a .heads .now) (a .bits .now) (a .offs .now) (a .dynamic) 1 d1 in
-    let e2 = length-list (a .leaders .now) (a .heads .now) (a .bits .now) (a .offs .now) (a .dynamic) (a .d) in
-    let e3 = length-entries (a .leaders .now) (a .heads .now) (a .bits .now) (a .offs .now) (a .dynamic) 3 d3 in
-    let w0 = p0 .put in
-    let w1 = p1 .put-entries in
-    let w2 = p2 .put-list-entries in
-    let w3 = p3 .put-entries2 in
-    let t1 = entries (a .leaders .now) (a .heads .now) (a .bits .now) (a .offs .now) (a .dynamic) 1 d1 in
-    let t2 = listEntries (a .leaders .now) (a .heads .now) (a .bits .now) (a .offs .now) (a .dynamic) (a .d) in
-    let t3 = entries (a .leaders .now) (a .heads .now) (a .bits .now) (a .offs .now) (a .dynamic) 3 d3 in
-    let n1 = w1 .ensures .0 in
-    let n2 = w2 .ensures .0 in
-    let n3 = w3 .ensures .0 in
-    let g0 = grow-start (a .index .now) (a .p) (omega (arith, s)) in
-    let g1 = grow-one (w0 .last .0) (rec 2 0 (a .arg) 0 0) g0 (omega (arith, s)) (w0 .kept .0) (w0 .ensures) in
-    let g2 = grow-run (w1 .last .0) (w1 .result) t1 g1 n1 (omega (arith, s, n1)) (w1 .kept .0) (w1 .ensures .1) in
-    let g3 = grow-run (w2 .last .0) (w2 .result) t2 g2 n2 (omega (arith, s, n1, n2)) (w2 .kept .0) (w2 .ensures .1) in
-    let g4 = grow-run (w3 .last .0) (w3 .result) t3 g3 n3 (omega (arith, s, n1, n2, n3)) (w3 .kept .0) (w3 .ensures .1) in
-    let q =
-    switch-parts (a .leaders .now) (a .heads .now) (a .bits .now) (a .offs .now) (a .dynamic) (a .arg) (a .d) d3 d1
-    (ap (λ (x : ℕ). a .d + x) (ll .list-lines .ensures .0))
-    (ap (λ (x : ℕ). d3 + x) (cl .count-lines .ensures .0)) in
-    (grow-as q g4 .next, grow-end (grow-as q g4))
+    let w = c .before .before .put-entries2 in
+    left-all (w .last .0) (w .result) _ (after-lists (c .before .before .before .before .before .before)) (w .ensures .0) (w .kept .0) (w .ensures .1)
 
 pub put-switch-spec : {M : Type 1} → statement M
 put-switch-spec =

@@ -7,7 +7,7 @@ use lib.ListN.{length, getD}
 use lib.Seq.{slice}
 use Rattle.records.specs.Records.{recordsOf, none}
 use Rattle.well_formed.specs.Pass.{among}
-use Rattle.well_formed.proofs.ChainLaws.{Reached, chain-start, found, shorter, follow, followed}
+use Rattle.well_formed.proofs.ChainLaws.{At, start, found, shorter, follow, followed}
 use Rattle.well_formed.proofs.keys.key_chained.Statement.{statement}
 use Rattle.well_formed.proofs.keys.key_chained.Tie as tie
 use Rattle.well_formed.proofs.keys.key_chained.Reads as reads
@@ -19,7 +19,7 @@ use Rattle.well_formed.proofs.keys.key_at.Reads as key-at-reads
 abbrev Inv-loop : tie.InvT-loop
 Inv-loop index at to bucket heads links r number₀ steps₀ number steps =
     (r ≡ getD (recordsOf index) at none) × (steps ≤ 32)
-    × Reached (recordsOf index) links to (length heads) (to - (at + 1)) r (among r (slice (at + 1) to (recordsOf index))) number
+    × At (recordsOf index) links to (length heads) at r number
 
 abbrev μ-loop : tie.MeasureT-loop
 μ-loop index at to bucket heads links r number₀ steps₀ number steps = number
@@ -43,8 +43,7 @@ loop-holds c =
     let g = c .before .get in (
       g .ensures,
       search needs,
-      chain-start (recordsOf (a .index .now)) (a .heads .now) (a .links .now) (a .to) (a .at) (a .bucket) (g .result)
-          (search needs) (search needs) (g .ensures) (st .pre .1 .0 .0) (st .pre .1 .0 .1) (st .pre .1 .1),
+      start _ _ _ _ _ _ (search needs) (search needs) _ (st .pre .1 .1) _ (rw (g .ensures) (st .pre .1 .0 .0)) (st .pre .1 .0 .1),
     )
 
 add-key-among : tie.Need-add-key-among Inv-loop μ-loop
@@ -66,8 +65,7 @@ returns-2 : tie.Need-returns-2 Inv-loop μ-loop
 returns-2 c =
     let l = c .before .before .before .before in
     rw (← l .loop .inv .0)
-    (sym (found _ _ _ _ _ _ _ (search needs) (omega arith) _ (l .loop .number - 1) (omega arith) (l .loop .inv .2)
-    (sym (c .before .key-at .ensures) ∙ c .if2 .taken)))
+    (sym (found _ _ _ _ _ _ (search needs) (search needs) _ (l .loop .number - 1) (omega arith) (l .loop .inv .2) (sym (c .before .key-at .ensures) ∙ c .if2 .taken)))
 
 sub-number : tie.Need-sub-number Inv-loop μ-loop
 sub-number c = search needs
@@ -87,21 +85,23 @@ add-steps c = search needs
 loop-less : tie.Need-loop-less Inv-loop μ-loop
 loop-less c =
     let l = c .before .before .before .before .before in
-    omega (arith, shorter _ _ _ _ _ _ _ (search needs) (omega arith) _ (l .loop .number - 1) (omega arith) (l .loop .inv .2))
+    let st = l .before .before .before .before .before .before in
+    omega (arith, shorter _ _ _ _ _ _ (search needs) (search needs) _ (st .pre .1 .1) _ (l .loop .number - 1) (omega arith) (l .loop .inv .2))
 
 loop-again : tie.Need-loop-again Inv-loop μ-loop
 loop-again c =
-    let l = c .before .before .before .before .before in (
+    let l = c .before .before .before .before .before in
+    let st = l .before .before .before .before .before .before in (
       l .loop .inv .0,
       omega arith,
-      follow _ _ _ _ _ _ _ (search needs) (omega arith) _ (l .loop .number - 1) (omega arith) (l .loop .inv .2)
+      follow _ _ _ _ _ _ (search needs) (search needs) _ (st .pre .1 .1) _ (l .loop .number - 1) (omega arith) (l .loop .inv .2)
           (sym (c .before .before .key-at .ensures) ∙ c .before .if2 .left),
     )
 
 returns-3 : tie.Need-returns-3 Inv-loop μ-loop
 returns-3 c =
     let l = c .before in
-    rw (← l .loop .inv .0) (sym (followed _ _ _ _ _ _ _ _ (omega arith) (l .loop .inv .2)))
+    rw (← l .loop .inv .0) (sym (followed _ _ _ _ _ _ (search needs) (search needs) _ (omega arith) (l .loop .inv .2)))
 
 pub key-chained-spec : {M : Type 1} → statement M
 key-chained-spec =

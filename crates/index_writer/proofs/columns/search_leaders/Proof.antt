@@ -7,8 +7,8 @@ use Rattle.records.proofs.Filled.{Filled, fill-start, fill-more}
 use Rattle.indexing.specs.Columns.{leadersTo}
 use Rattle.index_writer.proofs.ColumnLaws.{fill-whole, length-leaders, getD-leaders}
 use borrow.Author.Needs.{needs}
-use Rattle.index_writer.proofs.columns.find_leaders.Statement.{statement}
-use Rattle.index_writer.proofs.columns.find_leaders.Tie as tie
+use Rattle.index_writer.proofs.columns.search_leaders.Statement.{statement}
+use Rattle.index_writer.proofs.columns.search_leaders.Tie as tie
 
 abbrev Inv-loop : tie.InvT-loop
 Inv-loop heads bits leaders₀ n j₀ leaders j = (n ≡ length heads) × (length (leadersTo heads bits n) ≡ n) × Filled (leadersTo heads bits n) leaders₀ leaders j
@@ -52,8 +52,8 @@ returns c =
     let l = c .before .loop in
     fill-whole (l .inv .2) (omega arith) (omega arith)
 
-pub find-leaders-spec : {M : Type 1} → statement M
-find-leaders-spec =
+pub search-leaders-spec : {M : Type 1} → statement M
+search-leaders-spec =
     tie.close
     (tie.spec
     Inv-loop
