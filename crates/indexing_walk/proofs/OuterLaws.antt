@@ -57,8 +57,13 @@ copy-end list old i k e = ap (λ (x : ℕ). take x list ++ drop x old) e
 
 -- ---- the start
 
-module _ (code starts : List ℕ) (S : Settings) (call b : List ℕ) (count lines : ℕ) (fits : count ≤ capacityOf b)
-    (well : wellFormed (S .arity) (S .dynamic) (known starts) (take count (recordsOf b)) ≡ true) (many : lines ≡ length (indexIn b count)) where
+-- a buffer has a well-formed index of count records in front, of so many lines
+pub record Begins (code starts : List ℕ) (S : Settings) (b : List ℕ) (count lines : ℕ) : Type 0 where
+  pub fits : count ≤ capacityOf b
+  pub well : wellFormed (S .arity) (S .dynamic) (known starts) (take count (recordsOf b)) ≡ true
+  pub many : lines ≡ length (indexIn b count)
+
+module _ {code starts : List ℕ} {S : Settings} {b : List ℕ} {count lines : ℕ} (begins : Begins code starts S b count lines) where
   abbrev P : Program
   P = programOf classOf S (recordsOf code) starts
 
@@ -69,16 +74,16 @@ module _ (code starts : List ℕ) (S : Settings) (call b : List ℕ) (count line
   first = record { line = 0; at = 1; from = 1; count = count; lines = lines; storing = true; tables = 0 }
 
   is : take count (recordsOf b) ≡ records (modeOf (S .dynamic)) 0 idx
-  is = sym (well-records P (known starts) (take count (recordsOf b)) well)
+  is = sym (well-records P (known starts) (take count (recordsOf b)) (begins .well))
 
   sound : indexOk (S .arity) (S .dynamic) (known starts) idx ≡ true
-  sound = well-index P (known starts) (take count (recordsOf b)) well
+  sound = well-index P (known starts) (take count (recordsOf b)) (begins .well)
 
-  pub lines-few : length idx ≤ 65535
+  pub lines-few : lines ≤ 65535
   lines-few =
-      let h : count ≤ length (recordsOf b) = omega (arith, fits, capacity-within b) in
+      let h : count ≤ length (recordsOf b) = omega (arith, begins .fits, capacity-within b) in
       let n : count ≡ size idx = sym (length-take-le count (recordsOf b) h) ∙ ap length is ∙ length-records (modeOf (S .dynamic)) 0 idx in
-      omega (arith, n, fits, capacity-small b, lines-size idx)
+      omega (arith, begins .many, n, begins .fits, capacity-small b, lines-size idx)
 
   some-line : 0 < length idx
   some-line = index-length P (known starts) idx sound
@@ -87,8 +92,8 @@ module _ (code starts : List ℕ) (S : Settings) (call b : List ℕ) (count line
   starts-so = record {
     records-are = is;
     sound = sound;
-    fits = fits;
-    lines-are = many;
+    fits = begins .fits;
+    lines-are = begins .many;
     tables = lineAt idx 0 .tables;
     place = at-start is some-line;
     later = args-true (S .arity) 1 (lineAt idx 0 .tables) (well-orderly P (known starts) idx sound .rises 0 some-line);
@@ -102,16 +107,16 @@ module _ (code starts : List ℕ) (S : Settings) (call b : List ℕ) (count line
   starts-kept bytes =
       let rs = records (modeOf (S .dynamic)) 0 idx in
       let n : length rs ≡ size idx = length-records (modeOf (S .dynamic)) 0 idx in
-      let h : count ≤ length (recordsOf b) = omega (arith, fits, capacity-within b) in
+      let h : count ≤ length (recordsOf b) = omega (arith, begins .fits, capacity-within b) in
       let m : length rs ≡ count = sym (ap length is) ∙ length-take-le count (recordsOf b) h in
       let e : recordsOf b ≡ rs ++ drop (length rs) (recordsOf b) =
           sym (take-append-drop count (recordsOf b)) ∙ ap₂ (λ (x : List Rec) (y : ℕ). x ++ drop y (recordsOf b)) is (sym m) in
       wrote-front b b rs bytes bytes (omega (arith, m, h)) (record { records = e; count = refl; odd = refl })
       ∙ ap (λ (x : ℕ). encode rs ++ drop (16 * x) b) n
 
-  pub starts-comes : Comes (resultOf classOf code starts S call b count) 0 (restOf code starts S call b first)
+  pub starts-comes : (call : List ℕ) → Comes (resultOf classOf code starts S call b count) 0 (restOf code starts S call b first)
   unfolding resultOf restOf
-  starts-comes =
+  starts-comes call =
       let W : Result = walkFrom P (capacityOf b) (callOf call) (S .arity) 1 (record { storing = true; index = idx }) (line 0) in
       let n : S .arity ≡ S .arity + 1 - 1 = omega arith in
       subst (Comes W 0) (ap (λ (x : ℕ). walkFrom P (capacityOf b) (callOf call) x 1 (record { storing = true; index = idx }) (line 0)) n) (comes-start W)

@@ -18,6 +18,10 @@ use Rattle.indexing_builder.proofs.capacity.Reads as capacity-reads
 use Rattle.records.proofs.capacity.Reads as capacity-reads′
 use Rattle.well_formed.proofs.well_formed.Reads as well-formed-reads
 
+-- the records are within the capacity
+fits : (c : tie.Else1) → let a = c .before .before .before .before .before .args in a .count ≤ capacityOf (a .index .now)
+fits c = omega (arith, c .before .capacity .ensures .0, c .if1 .left)
+
 capacity-requires : tie.Need-capacity-requires
 capacity-requires c κs = search needs
 
@@ -34,7 +38,7 @@ well-formed-requires c κs =
     let s = c .before .before .before .before .before .before in
     let a = s .args in
     let ok = code-ok classOf (a .settings .arity) (a .code .now) (a .starts .now) (s .pre) in
-    let h : a .count ≤ capacityOf (a .index .now) = omega (arith, c .before .before .capacity .ensures .0, c .before .if1 .left) in
+    let h = fits (c .before) in
     let n = c .capacity2 .ensures in
     ((omega (arith, h, capacity-within (a .index .now)), omega (arith, h, capacity-small (a .index .now))),
     ((subst (λ (x : ℕ). risingBelow x (a .starts .now) ≡ true) (sym n) (ok .rising), omega (arith, n, ok .size)), ok .arity-to))
@@ -42,14 +46,12 @@ well-formed-requires c κs =
 returns-2 : tie.Need-returns-2
 returns-2 c =
     let a = c .before .before .before .before .before .before .before .before .args in
-    let h : a .count ≤ capacityOf (a .index .now) = omega (arith, c .before .before .before .before .capacity .ensures .0, c .before .before .before .if1 .left) in
-    index-by (a .settings) (a .starts .now) (a .index .now) (a .count) true h (sym (c .before .well-formed .ensures) ∙ c .if2 .taken)
+    index-by (a .settings) (a .starts .now) (a .index .now) (a .count) true (fits (c .before .before .before)) (sym (c .before .well-formed .ensures) ∙ c .if2 .taken)
 
 returns-3 : tie.Need-returns-3
 returns-3 c =
     let a = c .before .before .before .before .before .before .before .before .args in
-    let h : a .count ≤ capacityOf (a .index .now) = omega (arith, c .before .before .before .before .capacity .ensures .0, c .before .before .before .if1 .left) in
-    index-by (a .settings) (a .starts .now) (a .index .now) (a .count) false h (sym (c .before .well-formed .ensures) ∙ c .if2 .left)
+    index-by (a .settings) (a .starts .now) (a .index .now) (a .count) false (fits (c .before .before .before)) (sym (c .before .well-formed .ensures) ∙ c .if2 .left)
 
 pub check-index-spec : {M : Type 1} → statement M
 check-index-spec =

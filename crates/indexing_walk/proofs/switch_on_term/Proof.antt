@@ -1,4 +1,8 @@
-use mathlib.Core.Path.{_∙_, sym}
+use mathlib.Core.Path.{_≡_, _∙_, sym}
+use Rattle.indexing_iter.specs.declared.Checked.the-variants.{Passed}
+use Rattle.indexing_iter.specs.Checks.{checkCode}
+use Rattle.indexing_iter.specs.Classes.{classOf}
+use Rattle.indexing_scan.specs.Calls.{checkCall, checkOut, checkIndex}
 use Rattle.indexing_walk.proofs.CallingLaws.{index-passed, out-passed, refused-1, refused-2, refused-3, refused-4, accepted}
 use borrow.Author.Needs.{needs}
 use Rattle.indexing_walk.proofs.switch_on_term.Statement.{statement}
@@ -11,6 +15,19 @@ use Rattle.indexing_scan.proofs.calls.check_out.Reads as check-out-reads
 use Rattle.indexing_walk.proofs.check_index.Reads as check-index-reads
 use Rattle.indexing_walk.proofs.refusal_of.Reads as refusal-of-reads
 use Rattle.indexing_walk.proofs.walk_lists.Reads as walk-lists-reads
+
+-- the checks that have passed
+code-passed : (c : tie.After-enum-told) → let a = c .before .before .before .before .before .before .before .before .args in checkCode classOf (a .settings .arity) (a .code .now) (a .starts .now) ≡ Passed
+code-passed c = sym (c .before .before .check-code .ensures) ∙ c .enum-told .given .1
+
+call-passed : (c : tie.After-enum-told3) → let a = c .before .before .before .before .before .before .before .before .before .before .before .args in checkCall (a .settings .arity) (a .call .now) ≡ Passed
+call-passed c = sym (c .before .before .check-call .ensures) ∙ c .enum-told3 .given .1
+
+out-is : (c : tie.After-enum-told5) → let a = c .before .before .before .before .before .before .before .before .before .before .before .before .before .before .before .args in checkOut (a .starts .now) (a .out .now) ≡ Passed
+out-is c = sym (c .before .before .check-out .ensures) ∙ c .enum-told5 .given .1
+
+index-is : (c : tie.After-enum-told7) → let a = c .before .before .before .before .before .before .before .before .before .before .before .before .before .before .before .before .before .before .before .args in checkIndex (a .settings) (a .starts .now) (a .index .now) (a .count) ≡ Passed
+index-is c = sym (c .before .before .check-index .ensures) ∙ c .enum-told7 .given .1
 
 check-code-requires : tie.Need-check-code-requires
 check-code-requires c κs = search needs
@@ -45,9 +62,9 @@ refusal-of-requires-2 c κs = search needs
 returns-2 : tie.Need-returns-2
 returns-2 c =
     let a = c .before .before .before .before .before .before .before .before .before .before .before .before .args in
-    let p1 = sym (c .before .before .before .before .before .before .check-code .ensures) ∙ c .before .before .before .before .enum-told .given .1 in
     let x = c .before .before .before .check-call in
-    refused-2 (a .code .now) (a .starts .now) (a .settings) (a .call .now) (a .index .now) (a .count) (a .out .now) (x .result) _ (c .refusal-of2 .result) (c .before .enum-told4 .given .1) (c .refusal-of2 .ensures) p1 (x .ensures)
+    refused-2 (a .code .now) (a .starts .now) (a .settings) (a .call .now) (a .index .now) (a .count) (a .out .now) (x .result) _ (c .refusal-of2 .result) (c .before .enum-told4 .given .1) (c .refusal-of2 .ensures)
+    (code-passed (c .before .before .before .before)) (x .ensures)
 
 check-out-requires : tie.Need-check-out-requires
 check-out-requires c κs = search needs
@@ -67,15 +84,12 @@ same-length c = search needs
 returns-3 : tie.Need-returns-3
 returns-3 c =
     let a = c .before .before .before .before .before .before .before .before .before .before .before .before .before .before .before .before .args in
-    let p1 = sym (c .before .before .before .before .before .before .before .before .before .before .check-code .ensures) ∙ c .before .before .before .before .before .before .before .before .enum-told .given .1 in
-    let p2 = sym (c .before .before .before .before .before .before .before .check-call .ensures) ∙ c .before .before .before .before .before .enum-told3 .given .1 in
     let x = c .before .before .before .check-out in
-    refused-3 (a .code .now) (a .starts .now) (a .settings) (a .call .now) (a .index .now) (a .count) (a .out .now) (x .result) _ (c .refusal-of3 .result) (c .before .enum-told6 .given .1) (c .refusal-of3 .ensures) p1 p2 (x .ensures)
+    refused-3 (a .code .now) (a .starts .now) (a .settings) (a .call .now) (a .index .now) (a .count) (a .out .now) (x .result) _ (c .refusal-of3 .result) (c .before .enum-told6 .given .1) (c .refusal-of3 .ensures)
+    (code-passed (c .before .before .before .before .before .before .before .before)) (call-passed (c .before .before .before .before .before)) (x .ensures)
 
 check-index-requires : tie.Need-check-index-requires
-check-index-requires c κs =
-    let p1 = sym (c .before .before .before .before .before .before .before .before .before .before .check-code .ensures) ∙ c .before .before .before .before .before .before .before .before .enum-told .given .1 in
-    p1
+check-index-requires c κs = code-passed (c .before .before .before .before .before .before .before .before)
 
 enum-told-7 : tie.Need-enum-told-7
 enum-told-7 c = search needs
@@ -95,20 +109,14 @@ same-length-3 c = search needs
 returns-4 : tie.Need-returns-4
 returns-4 c =
     let a = c .before .before .before .before .before .before .before .before .before .before .before .before .before .before .before .before .before .before .before .before .args in
-    let p1 = sym (c .before .before .before .before .before .before .before .before .before .before .before .before .before .before .check-code .ensures) ∙ c .before .before .before .before .before .before .before .before .before .before .before .before .enum-told .given .1 in
-    let p2 = sym (c .before .before .before .before .before .before .before .before .before .before .before .check-call .ensures) ∙ c .before .before .before .before .before .before .before .before .before .enum-told3 .given .1 in
-    let p3 = sym (c .before .before .before .before .before .before .before .check-out .ensures) ∙ c .before .before .before .before .before .enum-told5 .given .1 in
     let x = c .before .before .before .check-index in
-    refused-4 (a .code .now) (a .starts .now) (a .settings) (a .call .now) (a .index .now) (a .count) (a .out .now) (x .result) _ (c .refusal-of4 .result) (c .before .enum-told8 .given .1) (c .refusal-of4 .ensures) p1 p2 p3 (x .ensures)
+    refused-4 (a .code .now) (a .starts .now) (a .settings) (a .call .now) (a .index .now) (a .count) (a .out .now) (x .result) _ (c .refusal-of4 .result) (c .before .enum-told8 .given .1) (c .refusal-of4 .ensures)
+    (code-passed (c .before .before .before .before .before .before .before .before .before .before .before .before)) (call-passed (c .before .before .before .before .before .before .before .before .before)) (out-is (c .before .before .before .before .before)) (x .ensures)
 
 walk-lists-requires : tie.Need-walk-lists-requires
 walk-lists-requires c κs =
     let a = c .before .before .before .before .before .before .before .before .before .before .before .before .before .before .before .before .before .before .before .before .before .args in
-    let p1 = sym (c .before .before .before .before .before .before .before .before .before .before .before .before .before .before .before .check-code .ensures) ∙ c .before .before .before .before .before .before .before .before .before .before .before .before .before .enum-told .given .1 in
-    let p2 = sym (c .before .before .before .before .before .before .before .before .before .before .before .before .check-call .ensures) ∙ c .before .before .before .before .before .before .before .before .before .before .enum-told3 .given .1 in
-    let p3 = sym (c .before .before .before .before .before .before .before .before .check-out .ensures) ∙ c .before .before .before .before .before .before .enum-told5 .given .1 in
-    let p4 = sym (c .before .before .before .before .check-index .ensures) ∙ c .before .before .enum-told7 .given .1 in
-    (p1, (p2, (out-passed (a .starts .now) (a .out .now) p3, index-passed (a .settings) (a .starts .now) (a .index .now) (a .count) p4)))
+    (code-passed (c .before .before .before .before .before .before .before .before .before .before .before .before .before), (call-passed (c .before .before .before .before .before .before .before .before .before .before), (out-passed (a .starts .now) (a .out .now) (out-is (c .before .before .before .before .before .before)), index-passed (a .settings) (a .starts .now) (a .index .now) (a .count) (index-is (c .before .before)))))
 
 same-length-4 : tie.Need-same-length-4
 same-length-4 c = search needs
@@ -119,12 +127,9 @@ same-length-5 c = search needs
 returns-5 : tie.Need-returns-5
 returns-5 c =
     let a = c .before .before .before .before .before .before .before .before .before .before .before .before .before .before .before .before .before .before .before .before .before .before .before .before .before .before .args in
-    let p1 = sym (c .before .before .before .before .before .before .before .before .before .before .before .before .before .before .before .before .before .before .before .before .check-code .ensures) ∙ c .before .before .before .before .before .before .before .before .before .before .before .before .before .before .before .before .before .before .enum-told .given .1 in
-    let p2 = sym (c .before .before .before .before .before .before .before .before .before .before .before .before .before .before .before .before .before .check-call .ensures) ∙ c .before .before .before .before .before .before .before .before .before .before .before .before .before .before .before .enum-told3 .given .1 in
-    let p3 = sym (c .before .before .before .before .before .before .before .before .before .before .before .before .before .check-out .ensures) ∙ c .before .before .before .before .before .before .before .before .before .before .before .enum-told5 .given .1 in
-    let p4 = sym (c .before .before .before .before .before .before .before .before .before .check-index .ensures) ∙ c .before .before .before .before .before .before .before .enum-told7 .given .1 in
     let x = c .before .before .before .before .walk-lists in
-    accepted (a .code .now) (a .starts .now) (a .settings) (a .call .now) (a .index .now) (a .count) (a .out .now) (x .result) _ _ p1 p2 p3 p4 (x .ensures)
+    accepted (a .code .now) (a .starts .now) (a .settings) (a .call .now) (a .index .now) (a .count) (a .out .now) (x .result) _ _
+    (code-passed (c .before .before .before .before .before .before .before .before .before .before .before .before .before .before .before .before .before .before)) (call-passed (c .before .before .before .before .before .before .before .before .before .before .before .before .before .before .before)) (out-is (c .before .before .before .before .before .before .before .before .before .before .before)) (index-is (c .before .before .before .before .before .before .before)) (x .ensures)
 
 pub switch-on-term-spec : {M : Type 1} → statement M
 switch-on-term-spec =

@@ -37,9 +37,7 @@ enum-known-t c = search needs
 
 loop-less : tie.Need-loop-less Inv-loop μ-loop
 loop-less c =
-    let l = c .before .before .before .before .before .before .before .before .before .before .before .before .before .loop in
-    let d = c .before .before .before .before .before .before .before .before .before .turn in
-    let g = rw (c .before .t .given .1) at (d .ensures) in
+    let g = rw (c .before .t .given .1) at (c .before .before .before .before .before .before .before .before .before .turn .ensures) in
     g .fewer
 
 loop-again : tie.Need-loop-again Inv-loop μ-loop
@@ -70,7 +68,6 @@ returns c =
     let g = rw (c .before .t2 .given .1) at (d .ensures) in
     let s = c .before .before .before .before .before .before .before .before .before .before .before .before .before .before .before .before .before .before .before .before in
     let list = d .last .1 .1 .1 .1 .1 .1 .0 in
-    let b′ = d .last .1 .1 .1 .1 .0 in
     let e = c .before .t2 .given .0 .0 in
     ((λ W x. subst (λ (y : List ℕ). Ends y list W e) (sym (g .1)) (g .0 W (l .inv .1 W x))),
     (λ b₀ x. subst (λ (y : List ℕ). Kept (s .args .settings) b₀ y (e .records)) (sym (g .1))
