@@ -133,6 +133,7 @@ fn planned(n: usize, k: usize, r: Rec, g: Rec) -> Plan
 fn plan_in(input: &[u8]) -> Plan
     requires { ⌜ length (now input) ≤ 1048576 ⌝ }
     ensures { λ r. ⌜ r ≡ planOf (now (input .entry)) ⌝ }
+    ensures { λ r. ⌜ (r .place + r .calls + r .index ≤ 65539) × (r .starts ≤ 65536) × (r .capacity ≤ 65535) ⌝ }
 {
     let n = records::capacity(input);
     let k = inputs::count_starts(input);
@@ -270,10 +271,11 @@ fn open_cut(input: &[u8], plan: Plan, index: &mut [u8], out: &mut [u32], starts:
 }
 
 // The same with buffers of the largest lengths, of which it takes as much as the plan says.
-fn open_parts(input: &[u8], index: &mut [u8], out: &mut [u32], starts: &mut [u32]) -> First
-    requires { ⌜ (length (now input) ≤ 1048576) × (length (now index) ≡ 1048560) × (length (now out) ≡ 65535) × (length (now starts) ≡ 65536) ⌝ }
+fn open_parts(input: &[u8], index: &mut [u8], out: &mut [u32]) -> First
+    requires { ⌜ (length (now input) ≤ 1048576) × (length (now index) ≡ 1048560) × (length (now out) ≡ 65535) ⌝ }
     ensures { λ r. ⌜ openedOf r (now (index .exit)) (now (out .exit)) ≡ openedIn (planOf (now (input .entry))) (now (index .entry)) (now (out .entry)) (openOf (now (input .entry))) ⌝ }
 {
+    let mut starts = [0u32; 65536];
     let plan = plan_in(input);
     let n = 16 * plan.capacity;
     let m = plan.out as usize;
@@ -285,8 +287,7 @@ fn open_parts(input: &[u8], index: &mut [u8], out: &mut [u32], starts: &mut [u32
 pub fn open_index(input: &[u8], index: &mut [u8; 1048560], out: &mut [u32; 65535]) -> First
     ensures { λ r. ⌜ openedOf r (now (index .exit)) (now (out .exit)) ≡ openCall (now (input .entry)) (now (index .entry)) (now (out .entry)) ⌝ }
 {
-    let mut starts = [0u32; 65536];
-    open_parts(heard(input), index, out, &mut starts)
+    open_parts(heard(input), index, out)
 }
 
 // Call number i, with buffers and starts of the plan's lengths.
@@ -302,10 +303,11 @@ fn walk_cut(input: &[u8], plan: Plan, i: usize, index: &mut [u8], count: usize, 
 }
 
 // The same with buffers of the largest lengths, of which it takes as much as the plan says.
-fn walk_parts(input: &[u8], i: usize, index: &mut [u8], count: usize, out: &mut [u32], starts: &mut [u32]) -> WalkAnswer
-    requires { ⌜ (length (now input) ≤ 1048576) × (length (now index) ≡ 1048560) × (length (now out) ≡ 65535) × (length (now starts) ≡ 65536) ⌝ }
+fn walk_parts(input: &[u8], i: usize, index: &mut [u8], count: usize, out: &mut [u32]) -> WalkAnswer
+    requires { ⌜ (length (now input) ≤ 1048576) × (length (now index) ≡ 1048560) × (length (now out) ≡ 65535) ⌝ }
     ensures { λ r. ⌜ walkedOf r (now (index .exit)) (now (out .exit)) ≡ walkIn (now (input .entry)) i (now (index .entry)) count (now (out .entry)) ⌝ }
 {
+    let mut starts = [0u32; 65536];
     let plan = plan_in(input);
     let n = 16 * plan.capacity;
     let m = plan.out as usize;
@@ -317,8 +319,7 @@ fn walk_parts(input: &[u8], i: usize, index: &mut [u8], count: usize, out: &mut 
 pub fn walk_call(input: &[u8], i: usize, index: &mut [u8; 1048560], count: usize, out: &mut [u32; 65535]) -> WalkAnswer
     ensures { λ r. ⌜ walkedOf r (now (index .exit)) (now (out .exit)) ≡ walkIn (heardOf (now (input .entry))) i (now (index .entry)) count (now (out .entry)) ⌝ }
 {
-    let mut starts = [0u32; 65536];
-    walk_parts(heard(input), i, index, count, out, &mut starts)
+    walk_parts(heard(input), i, index, count, out)
 }
 
 // The record count that is handed to the next call: an accepted walk's new one; after a refusal the earlier one still holds.

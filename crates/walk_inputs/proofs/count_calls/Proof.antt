@@ -2,7 +2,6 @@
 use mathlib.Core.Path.{_≡_}
 use native.Mathlib.Omega.{arith}
 use lib.ListN.{length}
-use Rattle.walk_inputs.proofs.PlanLaws.{Small, plan-small}
 use Rattle.walk_inputs.proofs.RunLaws.{calls-as}
 use borrow.Author.Needs.{needs}
 use Rattle.walk_inputs.proofs.count_calls.Statement.{statement}
@@ -21,15 +20,13 @@ sub-result : tie.Need-sub-result
 sub-result c = omega (arith, c .step-of .ensures .1)
 
 add-result : tie.Need-add-result
-add-result c =
-    let z = plan-small _ _ (c .before .before .plan-in .ensures) (c .before .before .before .heard .ensures .1) in
-    omega (arith, z .places, c .before .step-of .ensures .2)
+add-result c = search needs
 
 div-result : tie.Need-div-result
 div-result c = omega (arith, c .before .step-of .ensures .1)
 
 returns : tie.Need-returns
-returns c =     calls-as _ _ _ _ (c .before .before .before .heard .ensures .0) (c .before .before .plan-in .ensures) (c .before .step-of .ensures .0)
+returns c = calls-as _ _ _ _ (c .before .before .before .heard .ensures .0) (c .before .before .plan-in .ensures .0) (c .before .step-of .ensures .0)
 
 pub count-calls-spec : {M : Type 1} → statement M
 count-calls-spec =

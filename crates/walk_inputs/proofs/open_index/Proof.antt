@@ -11,19 +11,19 @@ use Rattle.walk_inputs.proofs.open_index.Tie as tie
 heard-requires : tie.Need-heard-requires
 heard-requires c κs = search needs
 
-slice-aggregate-open-parts : tie.Need-slice-aggregate-open-parts
-slice-aggregate-open-parts c = search needs
-
 open-parts-requires : tie.Need-open-parts-requires
 open-parts-requires c κs = search needs
 
 returns : tie.Need-returns
 unfolding openCall
 returns c =
-    let a = c .before .before .before .before .before .before .before .args in
-    let o = c .before .open-parts in
-    o .ensures ∙ ap (λ (h : List ℕ). openedIn (planOf h) (a .index .now) (a .out .now) (openOf h)) (c .before .before .before .before .before .heard .ensures .0)
+    let a = c .before .before .before .before .before .args in
+    c .open-parts .ensures ∙ ap (λ (h : List ℕ). openedIn (planOf h) (a .index .now) (a .out .now) (openOf h)) (c .before .before .before .heard .ensures .0)
 
 pub open-index-spec : {M : Type 1} → statement M
 open-index-spec =
-    tie.close (tie.spec heard-requires slice-aggregate-open-parts open-parts-requires returns)
+    tie.close
+    (tie.spec
+    heard-requires
+    open-parts-requires
+    returns)

@@ -1,12 +1,9 @@
 -- As much of the buffers as the plan says. Assumes nothing.
-use mathlib.Core.Path.{_≡_, sym, ap, _∙_}
-use Prim.Native.Nat.{_*_}
+use mathlib.Core.Path.{_≡_, ap, _∙_}
 use native.Mathlib.Omega.{arith}
-use lib.ListN.{length}
-use lib.Seq.{length-take-le}
+use lib.ListN.{length-take}
 use Rattle.walk_inputs.specs.declared.Plan.{Plan}
 use Rattle.walk_inputs.specs.Run.{Opened, openOf, openedIn}
-use Rattle.walk_inputs.proofs.PlanLaws.{Small, plan-small}
 use Rattle.walk_inputs.proofs.RunLaws.{opened-front}
 use borrow.Author.Needs.{needs}
 use Rattle.walk_inputs.proofs.open_parts.Statement.{statement}
@@ -16,54 +13,31 @@ plan-in-requires : tie.Need-plan-in-requires
 plan-in-requires c κs = search needs
 
 mul-n : tie.Need-mul-n
-mul-n c =
-    let z = plan-small _ _ (c .before .plan-in .ensures) (search needs) in
-    omega (arith, z .capacity)
+mul-n c = search needs
 
 cast-m : tie.Need-cast-m
 cast-m c = search needs
 
 slice-relend-prefix-open-cut : tie.Need-slice-relend-prefix-open-cut
-slice-relend-prefix-open-cut c =
-    let z = plan-small _ _ (c .before .before .plan-in .ensures) (search needs) in
-    omega (arith, z .capacity)
+slice-relend-prefix-open-cut c = search needs
 
 slice-aggregate-open-cut : tie.Need-slice-aggregate-open-cut
-slice-aggregate-open-cut c =
-    let a = c .before .before .before .before .before .before .before .before .args in
-    let p = c .before .before .before .plan-in in
-    let z = plan-small _ _ (p .ensures) (search needs) in
-    sym (length-take-le (16 * p .result .capacity) (a .index .now) (omega (arith, z .capacity)))
+slice-aggregate-open-cut c = simp length-take (omega arith)
 
 slice-relend-prefix-open-cut-2 : tie.Need-slice-relend-prefix-open-cut-2
 slice-relend-prefix-open-cut-2 c = search needs
 
 slice-aggregate-open-cut-2 : tie.Need-slice-aggregate-open-cut-2
-slice-aggregate-open-cut-2 c =
-    let a = c .before .before .before .before .before .before .before .before .before .args in
-    let p = c .before .before .before .before .plan-in in
-    let z = plan-small _ _ (p .ensures) (search needs) in
-    sym (length-take-le (p .result .out) (a .out .now) (omega (arith)))
+slice-aggregate-open-cut-2 c = simp length-take (omega arith)
 
-slice-relend-prefix-open-cut-3 : tie.Need-slice-relend-prefix-open-cut-3
-slice-relend-prefix-open-cut-3 c =
-    let z = plan-small _ _ (c .before .before .before .before .plan-in .ensures) (search needs) in
-    omega (arith, z .starts)
+array-borrow-prefix-starts : tie.Need-array-borrow-prefix-starts
+array-borrow-prefix-starts c = search needs
 
 slice-aggregate-open-cut-3 : tie.Need-slice-aggregate-open-cut-3
-slice-aggregate-open-cut-3 c =
-    let a = c .before .before .before .before .before .before .before .before .before .before .args in
-    let p = c .before .before .before .before .before .plan-in in
-    let z = plan-small _ _ (p .ensures) (search needs) in
-    sym (length-take-le (p .result .starts) (a .starts .now) (omega (arith, z .starts)))
+slice-aggregate-open-cut-3 c = simp length-take (omega arith)
 
 open-cut-requires : tie.Need-open-cut-requires
-open-cut-requires c κs =
-    let a = c .before .before .before .before .before .before .before .before .before .before .args in
-    let p = c .before .before .before .before .before .plan-in in
-    let z = plan-small _ _ (p .ensures) (search needs) in
-    ((p .ensures, search needs, length-take-le (16 * p .result .capacity) (a .index .now) (omega (arith, z .capacity))),
-    (length-take-le (p .result .out) (a .out .now) (omega arith), length-take-le (p .result .starts) (a .starts .now) (omega (arith, z .starts))))
+open-cut-requires c κs = ((c .before .before .before .before .before .plan-in .ensures .0, search needs, simp length-take (omega arith)), simp length-take (omega arith))
 
 same-length : tie.Need-same-length
 same-length c = search needs
@@ -71,17 +45,14 @@ same-length c = search needs
 same-length-2 : tie.Need-same-length-2
 same-length-2 c = search needs
 
-same-length-3 : tie.Need-same-length-3
-same-length-3 c = search needs
-
 returns : tie.Need-returns
 returns c =
-    let a = c .before .before .before .before .before .before .before .before .before .before .before .before .before .before .before .before .before .args in
-    let p = c .before .before .before .before .before .before .before .before .before .before .before .before .plan-in in
-    let o = c .before .before .before .before .before .before .open-cut in
+    let a = c .before .before .before .before .before .before .before .before .before .before .before .before .before .before .before .args in
+    let p = c .before .before .before .before .before .before .before .before .before .before .before .plan-in in
+    let o = c .before .before .before .before .before .open-cut in
     opened-front (o .result) (p .result) _ _ (a .index .now) (a .out .now)
     ∙ ap (λ (x : Opened). openedIn (p .result) (a .index .now) (a .out .now) x) (o .ensures)
-    ∙ ap (λ (q : Plan). openedIn q (a .index .now) (a .out .now) (openOf (a .input .now))) (p .ensures)
+    ∙ ap (λ (q : Plan). openedIn q (a .index .now) (a .out .now) (openOf (a .input .now))) (p .ensures .0)
 
 pub open-parts-spec : {M : Type 1} → statement M
 open-parts-spec =
@@ -94,10 +65,9 @@ open-parts-spec =
     slice-aggregate-open-cut
     slice-relend-prefix-open-cut-2
     slice-aggregate-open-cut-2
-    slice-relend-prefix-open-cut-3
+    array-borrow-prefix-starts
     slice-aggregate-open-cut-3
     open-cut-requires
     same-length
     same-length-2
-    same-length-3
     returns)

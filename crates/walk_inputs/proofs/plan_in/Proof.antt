@@ -5,7 +5,7 @@ use lib.ListN.{length}
 use Rattle.records.specs.Records.{recordsOf}
 use Rattle.records.proofs.Laws.{length-recordsOf}
 use Rattle.inputs.proofs.StartLaws.{behind-most}
-use Rattle.walk_inputs.proofs.PlanLaws.{place-most, plan-as}
+use Rattle.walk_inputs.proofs.PlanLaws.{place-most, plan-as, plan-small}
 use borrow.Author.Needs.{needs}
 use Rattle.walk_inputs.proofs.plan_in.Statement.{statement}
 use Rattle.walk_inputs.proofs.plan_in.Tie as tie
@@ -51,8 +51,11 @@ planned-requires c κs =
 returns : tie.Need-returns
 returns c =
     let s = c .before .before .before .before .before .before .before .before .args .input .now in
-    c .planned .ensures
-    ∙ plan-as s _ _ _ _ _ _ (c .before .before .before .before .before .before .capacity .ensures) (c .before .before .before .before .before .count-starts .ensures) (c .before .before .before .before .record-of .ensures) (c .before .before .before .bit .ensures) (c .before .before .place-of .ensures) (c .before .given-of .ensures)
+    let e =
+        c .planned .ensures
+        ∙ plan-as s _ _ _ _ _ _ (c .before .before .before .before .before .before .capacity .ensures) (c .before .before .before .before .before .count-starts .ensures) (c .before .before .before .before .record-of .ensures) (c .before .before .before .bit .ensures) (c .before .before .place-of .ensures) (c .before .given-of .ensures) in
+    let z = plan-small s _ e (search needs) in
+    (e, (z .places, z .starts, z .capacity))
 
 pub plan-in-spec : {M : Type 1} → statement M
 plan-in-spec =

@@ -12,7 +12,7 @@ plan-in-requires : tie.Need-plan-in-requires
 plan-in-requires c κs = search needs
 
 returns : tie.Need-returns
-returns c = c .plan-in .ensures ∙ ap planOf (c .before .heard .ensures .0)
+returns c = c .plan-in .ensures .0 ∙ ap planOf (c .before .heard .ensures .0)
 
 pub plan-of-spec : {M : Type 1} → statement M
 plan-of-spec = tie.close (tie.spec heard-requires plan-in-requires returns)

@@ -10,17 +10,18 @@ use Rattle.walk_inputs.proofs.walk_call.Tie as tie
 heard-requires : tie.Need-heard-requires
 heard-requires c κs = search needs
 
-slice-aggregate-walk-parts : tie.Need-slice-aggregate-walk-parts
-slice-aggregate-walk-parts c = search needs
-
 walk-parts-requires : tie.Need-walk-parts-requires
 walk-parts-requires c κs = search needs
 
 returns : tie.Need-returns
 returns c =
-    let a = c .before .before .before .before .before .before .before .args in
-    c .before .walk-parts .ensures ∙ ap (λ (h : List ℕ). walkIn h (a .i) (a .index .now) (a .count) (a .out .now)) (c .before .before .before .before .before .heard .ensures .0)
+    let a = c .before .before .before .before .before .args in
+    c .walk-parts .ensures ∙ ap (λ (h : List ℕ). walkIn h (a .i) (a .index .now) (a .count) (a .out .now)) (c .before .before .before .heard .ensures .0)
 
 pub walk-call-spec : {M : Type 1} → statement M
 walk-call-spec =
-    tie.close (tie.spec heard-requires slice-aggregate-walk-parts walk-parts-requires returns)
+    tie.close
+    (tie.spec
+    heard-requires
+    walk-parts-requires
+    returns)
