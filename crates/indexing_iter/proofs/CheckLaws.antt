@@ -23,6 +23,7 @@ use Rattle.indexing_iter.specs.Keys.{keyIn, isOpen}
 use Rattle.indexing_iter.specs.Clauses.{endOf, clausesOf, offsetsOf, clauseAt, keyOf, known}
 use Rattle.indexing_iter.specs.Checks.{risingBelow, isBody, hasBody, recordBad, registerBad, registerStep, checkRecords, checkClause, orElse, refuse, checkArity, checkChosen, checkSize, checkStarts, checkClauses, openSomewhere, checkKeyed, checkClausesOf, checkCode, checkBuild}
 use Rattle.indexing_iter.proofs.Parts.{slice-step, slice-done}
+use Rattle.indexing_iter.proofs.SameKeys.{and-left, and-right, or-left, or-right}
 
 pub drop-step : (s : List ℕ) (i : ℕ) → i < length s → drop i s ≡ getD s i 0 ∷ drop (i + 1) s
 drop-step s i h = rw (add-one i) (drop-cons s i 0 h)
@@ -104,20 +105,16 @@ clause-none cls arity rs i end last h = rw (body-none cls rs i end h) refl
 
 -- ---- the starts
 
-both-true : (a b : Bool) → (a && b) ≡ true → (a ≡ true) × (b ≡ true)
-both-true true b e = (refl, e)
-both-true false b e = let z : _≡_ {A = ℕ} 0 1 = cc in absurd (omega arith)
-
 pub rising-tail : (n x : ℕ) (s : List ℕ) → risingBelow n (x ∷ s) ≡ true → risingBelow n s ≡ true
 unfolding risingBelow
 rising-tail n x [] e = refl
-rising-tail n x (y ∷ s) e = both-true (ltb x y) (risingBelow n (y ∷ s)) e .1
+rising-tail n x (y ∷ s) e = and-right (ltb x y) (risingBelow n (y ∷ s)) e
 
 -- a clause starts before it ends
 pub rising-head : (n x : ℕ) (s : List ℕ) → risingBelow n (x ∷ s) ≡ true → x < endOf n s
 unfolding risingBelow
 rising-head n x [] e = ltb-true x n e
-rising-head n x (y ∷ s) e = ltb-true x y (both-true (ltb x y) (risingBelow n (y ∷ s)) e .0)
+rising-head n x (y ∷ s) e = ltb-true x y (and-left (ltb x y) (risingBelow n (y ∷ s)) e)
 
 -- and ends within the code
 pub end-below : (n : ℕ) (s : List ℕ) → risingBelow n s ≡ true → endOf n s ≤ n
@@ -145,7 +142,7 @@ clauses-none rs s i h = rw (drop-of-length-le s h) refl
 
 -- ---- what a passed check tells
 
-passed-both : (a b : Checked) → orElse a b ≡ Passed → (a ≡ Passed) × (b ≡ Passed)
+pub passed-both : (a b : Checked) → orElse a b ≡ Passed → (a ≡ Passed) × (b ≡ Passed)
 passed-both Passed b e = (refl, e)
 passed-both (Refused n) b e = let z : _≡_ {A = ℕ} 0 1 = cc in absurd (omega arith)
 
@@ -153,9 +150,11 @@ passed-test : (met : Bool) (n : ℕ) → refuse met n ≡ Passed → met ≡ fal
 passed-test true n e = let z : _≡_ {A = ℕ} 0 1 = cc in absurd (omega arith)
 passed-test false n e = refl
 
+both-true : (a b : Bool) → (a && b) ≡ true → (a ≡ true) × (b ≡ true)
+both-true a b e = (and-left a b e, and-right a b e)
+
 none-true : (a b : Bool) → (a || b) ≡ false → (a ≡ false) × (b ≡ false)
-none-true true b e = let z : _≡_ {A = ℕ} 0 1 = cc in absurd (omega arith)
-none-true false b e = (refl, e)
+none-true a b e = (or-left a b e, or-right a b e)
 
 pub arity-passed : (arity : ℕ) → checkArity arity ≡ Passed → (1 ≤ arity) × (arity ≤ 32)
 arity-passed arity e =
@@ -277,6 +276,9 @@ module _ (cls : ℕ → ℕ) (arity : ℕ) (code starts : List ℕ) where
 
   pub code-rising : checkCode cls arity code starts ≡ Passed → risingBelow (length (recordsOf code)) starts ≡ true
   code-rising e = clauses-of-rising (code-passed e .1)
+
+  pub code-clauses : checkCode cls arity code starts ≡ Passed → checkClauses cls arity (clausesOf (recordsOf code) starts) ≡ Passed
+  code-clauses e = clauses-of-passed (code-passed e .1) .2
 
   pub code-offset : (o : ℕ) → checkCode cls arity code starts ≡ Passed → known starts o ≡ true → (1 ≤ o) × (o ≤ length (recordsOf code))
   code-offset o e h = known-range (length (recordsOf code)) starts o (code-rising e) h

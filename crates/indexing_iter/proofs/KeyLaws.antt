@@ -1,7 +1,7 @@
 -- What a check that passed says of the code: where its clauses stand and which keys they have.
 -- Every law that reads code holds for any class function. Assumes nothing.
 use mathlib.Core.Path.{_≡_, refl, sym, ap, _∙_, subst}
-use Prim.Native.Nat.{ℕ, zero, suc, _+_, _-_, _/_, _%_, _≤_, _<_}
+use Prim.Native.Nat.{ℕ, zero, suc, _+_, _-_, _/_, _≤_, _<_}
 use mathlib.Core.Bool.{Bool, true, false, cond, not, _&&_, _||_, false≢true}
 use mathlib.Core.List.{List, [], _∷_, _++_, map}
 use native.Mathlib.Nat.{add-zero, not-suc-le-zero, le-of-suc-le-suc}
@@ -12,7 +12,6 @@ use lib.Seq.{slice, length-take-le, take-length, drop-append-le}
 use borrow.Author.Tests.{eqb-true, leb-true, leb-false, ltb-false, not-false}
 use Rattle.records.specs.declared.Rec.{Rec}
 use Rattle.records.specs.Records.{recordsOf}
-use Rattle.records.proofs.Laws.{length-recordsOf}
 use Rattle.indexing_iter.specs.declared.OptArgIndexKey.{OptArgIndexKey}
 use Rattle.indexing_iter.specs.declared.OptArgIndexKey.the-variants.{Literal, Structure, List as ListKey}
 use Rattle.indexing_iter.specs.declared.InstructionArg.{InstructionArg}
@@ -22,8 +21,8 @@ use Rattle.indexing_iter.specs.declared.Checked.the-variants.{Passed, Re
 use Rattle.indexing_iter.specs.Classes.{instructionArg, argOfClass, keyOfClass, isKeyed, isShallowTemp}
 use Rattle.indexing_iter.specs.Keys.{keyIn, keyStep, keysIn}
 use Rattle.indexing_iter.specs.Clauses.{endOf, clausesOf, clauseAt, keyOf, keysOf, known}
-use Rattle.indexing_iter.specs.Checks.{orElse, checkArity, checkSize, checkStarts, risingBelow, isBody, hasBody, keyFieldsOk, recordBad, registerBad, registerStep, checkRecords, checkClause, checkClauses, checkClausesOf, checkCode}
-use Rattle.indexing_iter.proofs.CheckLaws.{rising-tail, rising-head, end-below}
+use Rattle.indexing_iter.specs.Checks.{orElse, risingBelow, isBody, hasBody, keyFieldsOk, recordBad, registerBad, registerStep, checkRecords, checkClause, checkClauses, checkCode}
+use Rattle.indexing_iter.proofs.CheckLaws.{rising-tail, rising-head, end-below, passed-both, code-arity, code-size, code-starts, code-rising, code-clauses}
 use Rattle.indexing_iter.proofs.SameKeys.{and-left, and-right, or-left, or-right, KeyInRange}
 
 -- ---- the keys at n arguments, one by one
@@ -93,12 +92,10 @@ pub refused-not : (n : ℕ) → Refused n ≡ Passed → ⊥
 refused-not n e = subst isPassed (sym e) tt
 
 pub or-else-first : (a b : Checked) → orElse a b ≡ Passed → a ≡ Passed
-or-else-first Passed b e = refl
-or-else-first (Refused n) b e = e
+or-else-first a b e = passed-both a b e .0
 
 pub or-else-next : (a b : Checked) → orElse a b ≡ Passed → b ≡ Passed
-or-else-next Passed b e = e
-or-else-next (Refused n) b e = absurd (refused-not n e)
+or-else-next a b e = passed-both a b e .1
 
 -- the test of a refusal that was not made
 pub not-refused : (t : Bool) (n : ℕ) (x : Checked) → cond t (Refused n) x ≡ Passed → (t ≡ false) × (x ≡ Passed)
@@ -120,29 +117,17 @@ pub record CodeOk (cls : ℕ → ℕ) (arity : ℕ) (rs : List Rec) (starts : Li
   pub clauses : checkClauses cls arity (clausesOf rs starts) ≡ Passed
 
 pub code-ok : (cls : ℕ → ℕ) (arity : ℕ) (code starts : List ℕ) → checkCode cls arity code starts ≡ Passed → CodeOk cls arity (recordsOf code) starts
-unfolding checkCode checkClausesOf
 code-ok cls arity code starts e =
-    let n : ℕ = length code / 16 in
-    let cs : Checked = checkClauses cls arity (clausesOf (recordsOf code) starts) in
-    let a : checkArity arity ≡ Passed = or-else-first (checkArity arity) (checkClausesOf cls arity code starts) e in
-    let f : checkClausesOf cls arity code starts ≡ Passed = or-else-next (checkArity arity) (checkClausesOf cls arity code starts) e in
-    let s : checkSize code ≡ Passed = or-else-first (checkSize code) (orElse (checkStarts n starts) cs) f in
-    let g : orElse (checkStarts n starts) cs ≡ Passed = or-else-next (checkSize code) (orElse (checkStarts n starts) cs) f in
-    let t : checkStarts n starts ≡ Passed = or-else-first (checkStarts n starts) cs g in
-    let a′ : (leb 1 arity && leb arity 32) ≡ true = not-false (leb 1 arity && leb arity 32) (not-refused (not (leb 1 arity && leb arity 32)) 1 Passed a .0) in
-    let s′ : ltb 32768 n ≡ false =
-    or-right (not (eqb (length code % 16) 0)) (ltb 32768 n) (not-refused (not (eqb (length code % 16) 0) || ltb 32768 n) 3 Passed s .0) in
-    let q : Bool = leb (length starts) 1024 && risingBelow n starts in
-    let t′ : (leb 1 (length starts) && q) ≡ true = not-false (leb 1 (length starts) && q) (not-refused (not (leb 1 (length starts) && q)) 4 Passed t .0) in
-    let u : q ≡ true = and-right (leb 1 (length starts)) q t′ in
+    let a = code-arity cls arity code starts e in
+    let n = code-starts cls arity code starts e in
     record {
-      arity-from = leb-true 1 arity (and-left (leb 1 arity) (leb arity 32) a′);
-      arity-to = leb-true arity 32 (and-right (leb 1 arity) (leb arity 32) a′);
-      size = omega (arith, length-recordsOf code, ltb-false 32768 n s′);
-      some = leb-true 1 (length starts) (and-left (leb 1 (length starts)) q t′);
-      few = leb-true (length starts) 1024 (and-left (leb (length starts) 1024) (risingBelow n starts) u);
-      rising = rw length-recordsOf (and-right (leb (length starts) 1024) (risingBelow n starts) u);
-      clauses = or-else-next (checkStarts n starts) cs g;
+      arity-from = a .0;
+      arity-to = a .1;
+      size = code-size cls arity code starts e .1;
+      some = n .0;
+      few = n .1;
+      rising = code-rising cls arity code starts e;
+      clauses = code-clauses cls arity code starts e;
     }
 
 -- ---- where a clause stands

@@ -9,7 +9,7 @@ use Rattle.indexing_iter.proofs.classes.Lts as lts
 
 returns : tie.Need-returns
 unfolding classOf
-returns c = by-test _ tt (λ k. refl)
+returns c = by-test _ refl (λ k. refl)
 
 pub classes-spec : {M : Type 1} → statement M
 classes-spec = tie.close (tie.spec returns)
