@@ -1,7 +1,7 @@
 -- The loops over the records of a stored index, a turn at a time.
 -- Assumes nothing.
 use mathlib.Core.Path.{_≡_, refl, sym, ap, ap₂, _∙_}
-use mathlib.Core.Bool.{Bool, cond}
+use mathlib.Core.Bool.{Bool, true, false, cond}
 use mathlib.Core.List.{List, [], _∷_, _++_}
 use Prim.Native.Nat.{ℕ, suc, _+_, _-_, _≤_, _<_}
 use native.Mathlib.Nat.{add-zero}
@@ -74,6 +74,30 @@ module _ (l : List Rec) (i n : ℕ) (r : Rec) (h : i < n) (k : n ≤ length l) (
       let g : d ≡ suc (d - 1) = omega arith in
       ap₂ throughLine g at-front ∙ line-cons (d - 1) r (slice (i + 1) n l) b f
       ∙ ap (λ (x : ℕ). cond b (throughLine (d - 1) (slice (i + 1) n l) + 1) (throughLine x (slice (i + 1) n l) + 1)) (sym g)
+
+-- a loop for the first record where t holds, from place p of the first n records on, has come to place i
+pub record Seeks (t : Rec → Bool) (l : List Rec) (p n i : ℕ) : Type 0 where
+  pub from : p ≤ i
+  pub to : i ≤ n
+  pub first : p + upTo t (slice p n l) ≡ i + upTo t (slice i n l)
+
+pub seeks-first : (t : Rec → Bool) (l : List Rec) (p n : ℕ) → p ≤ n → Seeks t l p n p
+seeks-first t l p n h = record { from = omega arith; to = h; first = refl }
+
+module _ {t : Rec → Bool} {l : List Rec} {p n i : ℕ} (s : Seeks t l p n i) where
+  pub seeks-none : n ≤ i → n ≡ p + upTo t (slice p n l)
+  seeks-none h = omega (arith, s .to, s .first, upto-end t l i n (omega (arith, s .to)))
+
+  module _ (k : n ≤ length l) (h : i < n) (r : Rec) (e : r ≡ getD l i none) where
+    pub seeks-next : t r ≡ false → Seeks t l p n (i + 1)
+    seeks-next f = record {
+      from = omega (arith, s .from);
+      to = omega arith;
+      first = omega (arith, s .first, upto-turn l i n r h k e t false f);
+    }
+
+    pub seeks-found : t r ≡ true → i ≡ p + upTo t (slice p n l)
+    seeks-found f = omega (arith, s .first, upto-turn l i n r h k e t true f)
 
 -- ---- words copied
 

@@ -12,6 +12,7 @@ use lib.Seq.{length-take-le}
 use native.Mathlib.Numerals.{add-one}
 use borrow.Author.Tests.{not-true, not-false}
 use Rattle.indexing_iter.specs.declared.OptArgIndexKey.{OptArgIndexKey as Key}
+use Rattle.indexing_iter.specs.Clauses.{known}
 use Rattle.indexing_iter.specs.Keys.{isOpen}
 use Rattle.indexing.specs.Lists.{add, any, every}
 use Rattle.indexing.specs.Lines.{dead}
@@ -119,7 +120,7 @@ module _ (P : Program) (a : ℕ) (q : Key) (os : List ℕ) where
             refl (opened (P .extensible))
           ∙ closed (anyOpen (P .keyOf) a os) dead-or-none refl
 
-  -- the same by what was learnt: t whether a clause is open, s whether the argument is masked, u whether the call is unbound there
+  -- the same by what was learnt: t whether a clause is open
   module _ (t : Bool) (opens : t ≡ anyOpen (P .keyOf) a os) where
     pub demand-dead : t ≡ true → pass 2 ≡ demand P a q os (openAt P a os)
     demand-dead e = sym (demand-is ∙ rw (← opens, e) refl)
@@ -127,23 +128,31 @@ module _ (P : Program) (a : ℕ) (q : Key) (os : List ℕ) where
     pub demand-switch : (m : Move) → t ≡ false → m ≡ followNew P (choose P q (virtual P a os)) → m ≡ demand P a q os (openAt P a os)
     demand-switch m e f = f ∙ sym (demand-is ∙ rw (← opens, e) refl)
 
-  module _ (s : Bool) (masks : s ≡ P .masked a) where
-    pub move-masked : s ≡ true → skip ≡ move P [] (unstored os) a q
-    move-masked e = sym (move-is ∙ rw (← masks, e) refl)
+  pub move-masked : P .masked a ≡ true → skip ≡ move P [] (unstored os) a q
+  move-masked e = sym (move-is ∙ rw e refl)
 
-    module _ (t : Bool) (opens : t ≡ anyOpen (P .keyOf) a os) (unmasked : s ≡ false) where
-      pub move-none : t ≡ true → not (P .extensible) ≡ true → skip ≡ move P [] (unstored os) a q
-      move-none e f = sym (move-is ∙ rw (← masks, unmasked, ← opens, e, not-true (P .extensible) f) refl)
+-- the argument is not masked, and t whether a clause is open
+pub record Unmasked (P : Program) (a : ℕ) (os : List ℕ) (t : Bool) : Type 0 where
+  pub is : P .masked a ≡ false
+  pub opens : t ≡ anyOpen (P .keyOf) a os
 
-      module _ (u : Bool) (unbound : u ≡ isOpen q) where
-        pub move-dead : t ≡ true → not (P .extensible) ≡ false → cond u (pass 1) (pass 2) ≡ move P [] (unstored os) a q
-        move-dead e f = sym (move-is ∙ rw (← masks, unmasked, ← opens, e, not-false (P .extensible) f, ← unbound) refl)
+-- and u whether the call is unbound there
+module _ {P : Program} {a : ℕ} {os : List ℕ} {t : Bool} (x : Unmasked P a os t) (q : Key) where
+  pub move-none : t ≡ true → not (P .extensible) ≡ true → skip ≡ move P [] (unstored os) a q
+  move-none e f = sym (move-is P a q os ∙ rw (x .is, ← x .opens, e, not-true (P .extensible) f) refl)
 
-        pub move-unbound : t ≡ false → u ≡ true → pass 1 ≡ move P [] (unstored os) a q
-        move-unbound e f = sym (move-is ∙ rw (← masks, unmasked, ← opens, e, ← unbound, f) refl)
+  module _ (u : Bool) (unbound : u ≡ isOpen q) where
+    pub move-dead : t ≡ true → not (P .extensible) ≡ false → u ≡ false → pass 2 ≡ move P [] (unstored os) a q
+    move-dead e f g = sym (move-is P a q os ∙ rw (x .is, ← x .opens, e, not-false (P .extensible) f, ← unbound, g) refl)
 
-        pub move-switch : (m : Move) → t ≡ false → u ≡ false → m ≡ followNew P (choose P q (virtual P a os)) → m ≡ move P [] (unstored os) a q
-        move-switch m e f g = g ∙ sym (move-is ∙ rw (← masks, unmasked, ← opens, e, ← unbound, f) refl)
+    pub move-over : t ≡ true → not (P .extensible) ≡ false → u ≡ true → pass 1 ≡ move P [] (unstored os) a q
+    move-over e f g = sym (move-is P a q os ∙ rw (x .is, ← x .opens, e, not-false (P .extensible) f, ← unbound, g) refl)
+
+    pub move-unbound : t ≡ false → u ≡ true → pass 1 ≡ move P [] (unstored os) a q
+    move-unbound e f = sym (move-is P a q os ∙ rw (x .is, ← x .opens, e, ← unbound, f) refl)
+
+    pub move-switch : (m : Move) → t ≡ false → u ≡ false → m ≡ followNew P (choose P q (virtual P a os)) → m ≡ move P [] (unstored os) a q
+    move-switch m e f g = g ∙ sym (move-is P a q os ∙ rw (x .is, ← x .opens, e, ← unbound, f) refl)
 
 -- the first clause of a front
 pub known-first : (p : ℕ → Bool) (n : ℕ) (list : List ℕ) → every p (take n list) ≡ true → 0 < n → n ≤ length list → p (getD list 0 0) ≡ true
@@ -226,3 +235,32 @@ module _ (P : Program) (Q : Call) where
   pub goes-first : (a : ℕ) (os : List ℕ) → Goes (answerFrom P Q (P .arity + 1 - a) a [] (unstored os)) 0 (answerAt a os)
   unfolding answerAt
   goes-first a os = goes-start (answerFrom P Q (P .arity + 1 - a) a [] (unstored os))
+
+-- the answer A from argument a on in a line of m clauses, worked out up to argument b: the clauses left stand at the front of a list as long as before
+pub record Finishing (P : Program) (Q : Call) (starts : List ℕ) (A : Answer) (a m long : ℕ) (list : List ℕ) (count tables b : ℕ) : Type 0 where
+  pub goes : Goes A tables (answerAt P Q b (take count list))
+  pub first : 1 ≤ b
+  pub last : b ≤ P .arity + 1
+  pub few : tables + a ≤ b
+  pub fits : count ≤ length list
+  pub same : length list ≡ long
+  pub offsets : every (known starts) (take count list) ≡ true
+  pub small : P .arity ≤ 32
+  pub fewer : count ≤ m
+
+-- after one argument more
+pub finishing-next : {P : Program} {Q : Call} {starts : List ℕ} {A : Answer} {a m long : ℕ} {list : List ℕ} {count tables b : ℕ}
+    → Finishing P Q starts A a m long list count tables b → b ≤ P .arity → (new : List ℕ) → length new ≡ length list → (k n : ℕ)
+    → Goes A n (answerAt P Q (b + 1) (take k new)) → k ≤ count → n ≤ tables + 1 → every (known starts) (take k new) ≡ true
+    → Finishing P Q starts A a m long new k n (b + 1)
+finishing-next s h new e k n g x y o = record {
+  goes = g;
+  first = omega arith;
+  last = omega arith;
+  few = omega (arith, s .few);
+  fits = omega (arith, s .fits);
+  same = e ∙ s .same;
+  offsets = o;
+  small = s .small;
+  fewer = omega (arith, s .fewer);
+}

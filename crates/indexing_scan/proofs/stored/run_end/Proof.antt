@@ -1,13 +1,11 @@
 -- The place behind a run: what is left of it from place i on, with the places passed, is the whole. Assumes nothing.
-use mathlib.Core.Path.{_≡_, refl, sym, _∙_}
-use mathlib.Core.Bool.{true, false}
-use Prim.Native.Nat.{_+_, _-_, _≤_}
+use mathlib.Core.Path.{sym, _∙_}
+use Prim.Native.Nat.{_-_}
 use native.Mathlib.Omega.{arith}
 use borrow.Author.Needs.{needs}
-use lib.Seq.{slice}
 use Rattle.records.specs.Records.{recordsOf}
-use Rattle.indexing_scan.specs.Places.{leaves, upTo}
-use Rattle.indexing_scan.proofs.Turns.{upto-turn, upto-end}
+use Rattle.indexing_scan.specs.Places.{leaves}
+use Rattle.indexing_scan.proofs.Turns.{Seeks, seeks-first, seeks-none, seeks-next, seeks-found}
 use Rattle.indexing_scan.proofs.stored.run_end.Statement.{statement}
 use Rattle.indexing_scan.proofs.stored.run_end.Tie as tie
 use Rattle.indexing_scan.proofs.stored.run_end.Reads as reads
@@ -16,15 +14,13 @@ use Rattle.indexing_scan.proofs.stored.leaves_run.Reads as leaves-run-r
 use Rattle.records.proofs.get.Reads as get-reads
 
 abbrev Inv-loop : tie.InvT-loop
-Inv-loop index n p run i₀ i =
-    (p ≤ i) × (i ≤ n)
-    × (p + upTo (leaves run) (slice p n (recordsOf index)) ≡ i + upTo (leaves run) (slice i n (recordsOf index)))
+Inv-loop index n p run i₀ i = Seeks (leaves run) (recordsOf index) p n i
 
 abbrev μ-loop : tie.MeasureT-loop
 μ-loop index n p run i₀ i = n - i
 
 loop-holds : tie.Need-loop-holds Inv-loop μ-loop
-loop-holds c = (omega arith, omega arith, refl)
+loop-holds c = let a = c .before .args in seeks-first (leaves (a .run)) (recordsOf (a .index .now)) (a .p) (a .n) (omega arith)
 
 get-requires : tie.Need-get-requires Inv-loop μ-loop
 get-requires c κs = omega arith
@@ -34,12 +30,9 @@ leaves-run-requires c κs = search needs
 
 returns : tie.Need-returns Inv-loop μ-loop
 returns c =
-    let s = c .before .before .before .before .before .before in
-    let a = s .args in
-    let r = c .before .before .get in
-    let u = upto-turn (recordsOf (a .index .now)) (c .before .before .before .before .loop .i) (a .n) (r .result) (omega arith) (s .pre .1)
-    (r .ensures) (leaves (a .run)) true (sym (c .before .leaves-run .ensures) ∙ c .if1 .taken) in
-    (omega arith, omega arith)
+    let l = c .before .before .before .before .loop in
+    let g = c .before .before .get in
+    (seeks-found (l .inv) (c .before .before .before .before .before .before .pre .1) (omega arith) (g .result) (g .ensures) (sym (c .before .leaves-run .ensures) ∙ c .if1 .taken), l .inv .to)
 
 add-i : tie.Need-add-i Inv-loop μ-loop
 add-i c = omega arith
@@ -49,18 +42,13 @@ loop-less c = omega arith
 
 loop-again : tie.Need-loop-again Inv-loop μ-loop
 loop-again c =
-    let s = c .before .before .before .before .before .before in
-    let a = s .args in
-    let r = c .before .before .get in
-    let u = upto-turn (recordsOf (a .index .now)) (c .before .before .before .before .loop .i) (a .n) (r .result) (omega arith) (s .pre .1)
-    (r .ensures) (leaves (a .run)) false (sym (c .before .leaves-run .ensures) ∙ c .if1 .left) in
-    (omega arith, omega arith, omega arith)
+    let g = c .before .before .get in
+    seeks-next (c .before .before .before .before .loop .inv) (c .before .before .before .before .before .before .pre .1) (omega arith) (g .result) (g .ensures) (sym (c .before .leaves-run .ensures) ∙ c .if1 .left)
 
 returns-2 : tie.Need-returns-2 Inv-loop μ-loop
 returns-2 c =
-    let a = c .before .before .before .args in
-    let u = upto-end (leaves (a .run)) (recordsOf (a .index .now)) (c .before .loop .i) (a .n) (omega arith) in
-    (omega arith, omega arith)
+    let s = c .before .loop .inv in
+    (omega (arith, seeks-none s (omega arith)), s .to)
 
 pub run-end-spec : {M : Type 1} → statement M
 run-end-spec =

@@ -1,4 +1,6 @@
-use mathlib.Core.Path.{refl, sym, _∙_}
+use mathlib.Core.Path.{_≡_, refl, sym, _∙_}
+use mathlib.Core.Bool.{cond}
+use mathlib.Core.List.{[]}
 use lib.ListN.{take}
 use lib.Seq.{length-take-le}
 use native.Mathlib.Omega.{arith}
@@ -8,8 +10,9 @@ use Rattle.indexing.specs.Build.{programOf}
 use Rattle.indexing_scan.specs.declared.unstored.Narrowed.the-variants.{NoTable, Passed}
 use Rattle.indexing_iter.proofs.CheckLaws.{code-arity}
 use Rattle.indexing_scan.specs.Unstored.{moveOf}
+use Rattle.indexing_scan.specs.Walk.{pass, move, unstored}
 use Rattle.indexing_scan.proofs.HeldLaws.{held-same}
-use Rattle.indexing_scan.proofs.UnstoredLaws.{move-masked, move-none, move-dead, move-unbound, move-switch}
+use Rattle.indexing_scan.proofs.UnstoredLaws.{Unmasked, move-masked, move-none, move-dead, move-unbound, move-switch}
 use borrow.Author.Needs.{needs}
 use Rattle.indexing_scan.proofs.unstored.narrow.Statement.{statement}
 use Rattle.indexing_scan.proofs.unstored.narrow.Tie as tie
@@ -20,6 +23,19 @@ use Rattle.indexing_scan.proofs.unstored.any_open.Reads as any-open-rea
 use Rattle.indexing_scan.proofs.unstored.follow_new.Reads as follow-new-reads
 use Rattle.indexing.proofs.masked.Reads as masked-reads
 
+-- behind the first two tests: the argument is not masked, and whether a clause is open is known
+unmasked : (c : tie.After-any-open)
+    → let a = c .before .before .before .before .before .before .before .args in
+      Unmasked (programOf classOf (a .settings) (recordsOf (a .code .now)) (a .starts .now)) (a .a) (take (a .m) (a .clauses .now)) (c .any-open .result)
+unmasked c = record { is = sym (c .before .before .before .masked .ensures) ∙ c .before .before .if1 .left; opens = c .any-open .ensures }
+
+-- a table that some clause leaves open
+dead : (c : tie.After-is-open)
+    → let a = c .before .before .before .before .before .before .before .before .before .before .before .args in
+      cond (c .is-open .result) (pass 1) (pass 2)
+      ≡ move (programOf classOf (a .settings) (recordsOf (a .code .now)) (a .starts .now)) [] (unstored (take (a .m) (a .clauses .now))) (a .a) (a .q)
+dead c = move-dead (unmasked (c .before .before .before .before)) (c .before .before .before .before .before .before .before .before .before .before .before .args .q) (c .is-open .result) (c .is-open .ensures) (c .before .before .before .if2 .taken) (c .before .if3 .left)
+
 masked-requires : tie.Need-masked-requires
 masked-requires c κs =
     let a = c .before .before .before .args in
@@ -27,11 +43,10 @@ masked-requires c κs =
 
 returns : tie.Need-returns
 returns c =
-    let a = c .before .before .before .before .before .args in
-    let P = programOf classOf (a .settings) (recordsOf (a .code .now)) (a .starts .now) in
-    let os = take (a .m) (a .clauses .now) in
-    let i = c .before .masked in
-    (move-masked P (a .a) (a .q) os (i .result) (i .ensures) (c .if1 .taken), held-same (a .starts .now) (a .m) (a .clauses .now) NoTable refl refl (search needs))
+    let s = c .before .before .before .before .before in
+    let a = s .args in
+    (move-masked (programOf classOf (a .settings) (recordsOf (a .code .now)) (a .starts .now)) (a .a) (a .q) (take (a .m) (a .clauses .now)) (sym (c .before .masked .ensures) ∙ c .if1 .taken),
+      held-same (a .starts .now) (a .m) (a .clauses .now) NoTable refl refl (s .pre .1 .0 .1))
 
 slice-reshare-prefix-any-open : tie.Need-slice-reshare-prefix-any-open
 slice-reshare-prefix-any-open c = search needs
@@ -49,13 +64,9 @@ same-length c = search needs
 
 returns-2 : tie.Need-returns-2
 returns-2 c =
-    let a = c .before .before .before .before .before .before .before .before .before .before .args in
-    let P = programOf classOf (a .settings) (recordsOf (a .code .now)) (a .starts .now) in
-    let os = take (a .m) (a .clauses .now) in
-    let i = c .before .before .before .before .before .before .masked in
-    let o = c .before .before .before .any-open in
-    (move-none P (a .a) (a .q) os (i .result) (i .ensures) (o .result) (o .ensures) (c .before .before .before .before .before .if1 .left) (c .before .before .if2 .taken) (c .if3 .taken),
-      held-same (a .starts .now) (a .m) (a .clauses .now) NoTable refl refl (search needs))
+    let s = c .before .before .before .before .before .before .before .before .before .before in
+    let a = s .args in
+    (move-none (unmasked (c .before .before .before)) (a .q) (c .before .before .if2 .taken) (c .if3 .taken), held-same (a .starts .now) (a .m) (a .clauses .now) NoTable refl refl (s .pre .1 .0 .1))
 
 is-open-requires : tie.Need-is-open-requires
 is-open-requires c κs = search needs
@@ -65,30 +76,18 @@ same-length-2 c = search needs
 
 returns-3 : tie.Need-returns-3
 returns-3 c =
-    let a = c .before .before .before .before .before .before .before .before .before .before .before .before .args in
-    let P = programOf classOf (a .settings) (recordsOf (a .code .now)) (a .starts .now) in
-    let os = take (a .m) (a .clauses .now) in
-    let i = c .before .before .before .before .before .before .before .before .masked in
-    let o = c .before .before .before .before .before .any-open in
-    let u = c .before .is-open in
-    let m = move-dead P (a .a) (a .q) os (i .result) (i .ensures) (o .result) (o .ensures) (c .before .before .before .before .before .before .before .if1 .left) (u .result) (u .ensures)
-        (c .before .before .before .before .if2 .taken) (c .before .before .if3 .left) in
-    (rw (c .if4 .taken) at m, held-same (a .starts .now) (a .m) (a .clauses .now) (Passed 1) refl refl (search needs))
+    let s = c .before .before .before .before .before .before .before .before .before .before .before .before in
+    let a = s .args in
+    (rw (c .if4 .taken) at (dead (c .before)), held-same (a .starts .now) (a .m) (a .clauses .now) (Passed 1) refl refl (s .pre .1 .0 .1))
 
 same-length-3 : tie.Need-same-length-3
 same-length-3 c = search needs
 
 returns-4 : tie.Need-returns-4
 returns-4 c =
-    let a = c .before .before .before .before .before .before .before .before .before .before .before .before .args in
-    let P = programOf classOf (a .settings) (recordsOf (a .code .now)) (a .starts .now) in
-    let os = take (a .m) (a .clauses .now) in
-    let i = c .before .before .before .before .before .before .before .before .masked in
-    let o = c .before .before .before .before .before .any-open in
-    let u = c .before .is-open in
-    let m = move-dead P (a .a) (a .q) os (i .result) (i .ensures) (o .result) (o .ensures) (c .before .before .before .before .before .before .before .if1 .left) (u .result) (u .ensures)
-        (c .before .before .before .before .if2 .taken) (c .before .before .if3 .left) in
-    (rw (c .if4 .left) at m, held-same (a .starts .now) (a .m) (a .clauses .now) (Passed 2) refl refl (search needs))
+    let s = c .before .before .before .before .before .before .before .before .before .before .before .before in
+    let a = s .args in
+    (rw (c .if4 .left) at (dead (c .before)), held-same (a .starts .now) (a .m) (a .clauses .now) (Passed 2) refl refl (s .pre .1 .0 .1))
 
 is-open-requires-2 : tie.Need-is-open-requires-2
 is-open-requires-2 c κs = search needs
@@ -98,14 +97,11 @@ same-length-4 c = search needs
 
 returns-5 : tie.Need-returns-5
 returns-5 c =
-    let a = c .before .before .before .before .before .before .before .before .before .before .args in
-    let P = programOf classOf (a .settings) (recordsOf (a .code .now)) (a .starts .now) in
-    let os = take (a .m) (a .clauses .now) in
-    let i = c .before .before .before .before .before .before .masked in
-    let o = c .before .before .before .any-open in
+    let s = c .before .before .before .before .before .before .before .before .before .before in
+    let a = s .args in
     let u = c .before .is-open2 in
-    (move-unbound P (a .a) (a .q) os (i .result) (i .ensures) (o .result) (o .ensures) (c .before .before .before .before .before .if1 .left) (u .result) (u .ensures) (c .before .before .if2 .left) (c .if5 .taken),
-      held-same (a .starts .now) (a .m) (a .clauses .now) (Passed 1) refl refl (search needs))
+    (move-unbound (unmasked (c .before .before .before)) (a .q) (u .result) (u .ensures) (c .before .before .if2 .left) (c .if5 .taken),
+      held-same (a .starts .now) (a .m) (a .clauses .now) (Passed 1) refl refl (s .pre .1 .0 .1))
 
 follow-new-requires : tie.Need-follow-new-requires
 follow-new-requires c κs = (search needs, (search needs, sym (c .before .before .is-open2 .ensures) ∙ c .before .if5 .left))
@@ -115,17 +111,9 @@ same-length-5 c = search needs
 
 returns-6 : tie.Need-returns-6
 returns-6 c =
-    let a = c .before .before .before .before .before .before .before .before .before .before .before .before .before .before .args in
-    let P = programOf classOf (a .settings) (recordsOf (a .code .now)) (a .starts .now) in
-    let os = take (a .m) (a .clauses .now) in
-    let i = c .before .before .before .before .before .before .before .before .before .before .masked in
-    let o = c .before .before .before .before .before .before .before .any-open in
     let u = c .before .before .before .before .before .is-open2 in
     let f = c .before .before .follow-new in
-    let m = moveOf (f .result) (f .last .1 .1 .1 .0) in
-    (move-switch P (a .a) (a .q) os (i .result) (i .ensures) (o .result) (o .ensures) (c .before .before .before .before .before .before .before .before .before .if1 .left) (u .result) (u .ensures) m
-        (c .before .before .before .before .before .before .if2 .left) (c .before .before .before .before .if5 .left) (f .ensures .0),
-      f .ensures .1)
+    (move-switch (unmasked (c .before .before .before .before .before .before .before)) (c .before .before .before .before .before .before .before .before .before .before .before .before .before .before .args .q) (u .result) (u .ensures) (moveOf (f .result) (f .last .1 .1 .1 .0)) (c .before .before .before .before .before .before .if2 .left) (c .before .before .before .before .if5 .left) (f .ensures .0), f .ensures .1)
 
 pub narrow-spec : {M : Type 1} → statement M
 narrow-spec =
