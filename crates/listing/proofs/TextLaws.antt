@@ -15,12 +15,18 @@ use Rattle.records.specs.Records.{none}
 use Rattle.listing.specs.Text.{digits, decimal, lineOf, linesOf}
 
 -- a byte written stands before what follows it
-pub drop-put : (text : List ℕ) (i x : ℕ) → i < length text → drop i (set text i x) ≡ x ∷ drop (i + 1) text
+drop-put : (text : List ℕ) (i x : ℕ) → i < length text → drop i (set text i x) ≡ x ∷ drop (i + 1) text
 drop-put [] i x h = absurd (not-suc-le-zero h)
 drop-put (t ∷ ts) zero x h = refl
 drop-put (t ∷ ts) (suc i) x h =
     let e : suc (i + 1) ≡ suc i + 1 = omega arith in
     drop-put ts i x (le-of-suc-le-suc h) ∙ ap (λ (k : ℕ). x ∷ drop k (t ∷ ts)) e
+
+-- the same before a place
+pub put-before : (text : List ℕ) (i x : ℕ) → 1 ≤ i → i ≤ length text → drop (i - 1) (set text (i - 1) x) ≡ x ∷ drop i text
+put-before text i x h l =
+    let e : i - 1 + 1 ≡ i = omega arith in
+    drop-put text (i - 1) x (omega arith) ∙ ap (λ (k : ℕ). x ∷ drop k text) e
 
 -- a turn that writes the first digit
 pub digits-last : (k n : ℕ) (text : List ℕ) → n / 10 ≡ 0 → digits (suc k) n text ≡ (48 + n % 10) ∷ text
@@ -63,9 +69,7 @@ lines-none rs to = rw (slice-empty to rs) refl
 -- the two turns of a number's loop, on the text
 module _ (text : List ℕ) (least i n : ℕ) (h : least < i) (l : i ≤ length text) where
   put-is : drop (i - 1) (set text (i - 1) (48 + n % 10)) ≡ (48 + n % 10) ∷ drop i text
-  put-is =
-      let e : i - 1 + 1 ≡ i = omega arith in
-      drop-put text (i - 1) (48 + n % 10) (omega arith) ∙ ap (λ (k : ℕ). (48 + n % 10) ∷ drop k text) e
+  put-is = put-before text i (48 + n % 10) (omega arith) l
 
   pub turn-last : n / 10 ≡ 0 → digits (i - least) n (drop i text) ≡ drop (i - 1) (set text (i - 1) (48 + n % 10))
   turn-last z =

@@ -1,4 +1,6 @@
 // The listing of an index, as text: one line for each record, its five numbers in decimal with a blank between them.
+pub mod replay;
+
 use indexing_builder::BuildAnswer;
 use records::Rec;
 ghost use mathlib.Core.Path.{_≡_};
@@ -11,7 +13,7 @@ ghost use Rattle.listing.specs.Text.{decimal, lineOf, linesOf};
 
 // Puts a number in decimal before a place, from its last digit back, and answers where it begins. No u64 has more than
 // twenty digits.
-fn put_number(text: &mut [u8], end: usize, n: u64) -> usize
+pub fn put_number(text: &mut [u8], end: usize, n: u64) -> usize
     requires { ⌜ (20 ≤ end) × (end ≤ length (now text)) ⌝ }
     ensures { λ r. ⌜ (end ≤ r + 20) × (r ≤ end) ⌝ }
     ensures { λ r. ⌜ drop r (now (text .exit)) ≡ decimal n (drop end (now (text .entry))) ⌝ }
@@ -31,7 +33,7 @@ fn put_number(text: &mut [u8], end: usize, n: u64) -> usize
 }
 
 // Puts a number and the byte after it before a place.
-fn put_field(text: &mut [u8], end: usize, n: u64, after: u8) -> usize
+pub fn put_field(text: &mut [u8], end: usize, n: u64, after: u8) -> usize
     requires { ⌜ (21 ≤ end) × (end ≤ length (now text)) ⌝ }
     ensures { λ r. ⌜ (end ≤ r + 21) × (r ≤ end) ⌝ }
     ensures { λ r. ⌜ drop r (now (text .exit)) ≡ decimal n (after ∷ drop end (now (text .entry))) ⌝ }
@@ -85,7 +87,7 @@ fn print_part(index: &[u8], from: usize, to: usize)
 }
 
 // Where the part that begins at a place ends.
-fn part_end(from: usize, n: usize) -> usize
+pub fn part_end(from: usize, n: usize) -> usize
     requires { ⌜ from < n ⌝ }
     ensures { λ r. ⌜ (from < r) × (r ≤ n) × (r ≤ from + 128) ⌝ }
 {
@@ -117,6 +119,13 @@ pub fn print_index(index: &[u8], n: usize) {
     print_records(index, most);
 }
 
+// Prints a line that ends in a number.
+pub fn print_numbered(text: &[u8], n: u64) {
+    io::write_all(1, text);
+    io::print_decimal(1, n);
+    io::write_all(1, b"\n");
+}
+
 // Prints an answer, with the index that was left.
 fn print_answer(a: BuildAnswer, index: &[u8]) {
     match a {
@@ -124,9 +133,7 @@ fn print_answer(a: BuildAnswer, index: &[u8]) {
             print_index(index, count);
         }
         BuildAnswer::Refused(number) => {
-            io::write_all(1, b"refused ");
-            io::print_decimal(1, number as u64);
-            io::write_all(1, b"\n");
+            print_numbered(b"refused ", number as u64);
         }
     }
 }

@@ -1,68 +1,16 @@
 // Replays inputs of the program lines: prints for each its number and what lines prints of it.
 // tools/replay_lines.py describes the list of inputs and makes it, with the expected output.
-ghost use mathlib.Core.Path.{_≡_};
-ghost use Prim.Native.Nat.{_≤_};
-ghost use lib.ListN.{length};
+use listing::replay::Next;
 
-// The number of bytes that a head record says; where there is none, more than a buffer holds.
-fn size_in(head: &[u8]) -> usize {
-    if records::capacity(head) < 1 {
-        return 65601;
-    }
-    let r = records::get(head, 0);
-    if r.kind != 246 {
-        return 65601;
-    }
-    r.word as usize
-}
-
-fn read_size(head: &mut [u8]) -> usize {
-    let n = io::read_full(0, head);
-    size_in(&head[..n])
-}
-
-// Reads n bytes, and answers whether they were there.
-fn read_part(buffer: &mut [u8], n: usize) -> bool
-    requires { ⌜ n ≤ length (now buffer) ⌝ }
-{
-    io::read_full(0, &mut buffer[..n]) == n
-}
-
-fn show(n: u64, buffer: &[u8], len: usize)
-    requires { ⌜ len ≤ length (now buffer) ⌝ }
-{
-    io::write_all(1, b"input ");
-    io::print_decimal(1, n);
-    io::write_all(1, b"\n");
-    listing::print_listing(&buffer[..len]);
-}
-
-// Replays the next input, whose bytes are filled up to whole records. Answers whether there was one.
-fn replay_next(buffer: &mut [u8], n: u64) -> bool
-    requires { ⌜ length (now buffer) ≡ 65600 ⌝ }
-{
-    let mut head = [0u8; 16];
-    let len = read_size(&mut head);
-    if 65600 < len {
-        return false;
-    }
-    if read_part(buffer, (len + 15) / 16 * 16) {
-        show(n, buffer, len);
-        return true;
-    }
-    false
-}
-
-fn replay(buffer: &mut [u8])
-    requires { ⌜ length (now buffer) ≡ 65600 ⌝ }
-{
+fn replay(buffer: &mut [u8]) {
     let mut n = 0;
     while n < 1000000 {
-        if replay_next(buffer, n) {
-            n += 1;
-        } else {
+        let next = listing::replay::next_input(buffer, n);
+        let Next::Input(len) = next else {
             return;
-        }
+        };
+        listing::print_listing(&buffer[..len]);
+        n += 1;
     }
 }
 

@@ -5,11 +5,11 @@ use records::Rec;
 ghost use mathlib.Core.Path.{_≡_};
 ghost use Prim.Native.Nat.{_+_, _-_, _*_, _/_, _≤_, _<_, min};
 ghost use mathlib.Core.List.{_++_};
-ghost use lib.ListN.{length, getD, take, drop, replicate};
+ghost use lib.ListN.{length, getD, replicate};
 ghost use Rattle.records.specs.Records.{recordsOf, none};
 ghost use Rattle.indexing_builder.specs.Answer.{builtOf};
 ghost use Rattle.indexing_walk.specs.Answers.{walkedOf};
-ghost use Rattle.walk_inputs.specs.Plan.{heardOf, recordOf, givenOf, placeOf, plannedBy, planOf, startsOf, stepOf, partOf};
+ghost use Rattle.walk_inputs.specs.Plan.{heardOf, recordOf, givenOf, placeOf, plannedBy, planOf, stepOf, partOf};
 ghost use Rattle.walk_inputs.specs.Run.{startIndex, callsOf, callPart, buildOf, firstBuilt, openOf, openedOf, openedIn, openCall, walkOf, walkIn, nextCount};
 
 // What an input says of its run: how many starts there are, the numbers in out, the records that the index has room for, whether an index is

@@ -1,12 +1,11 @@
 -- The byte after the number stands first, then its digits before it. Assumes nothing.
-use mathlib.Core.Path.{_≡_}
-use Rattle.listing.proofs.TextLaws.{drop-put}
+use Rattle.listing.proofs.TextLaws.{put-before}
 use Rattle.listing.specs.Text.{decimal}
-use lib.ListN.{length, drop, set, length-set}
-use mathlib.Core.List.{List, _∷_}
+use lib.ListN.{length-set}
+use mathlib.Core.List.{List}
 use native.Mathlib.Omega.{arith}
-use Prim.Native.Nat.{ℕ, _+_, _-_}
-use mathlib.Core.Path.{sym, ap, _∙_}
+use Prim.Native.Nat.{ℕ, _-_}
+use mathlib.Core.Path.{ap, _∙_}
 use borrow.Author.Needs.{needs}
 use Rattle.listing.proofs.put_field.Statement.{statement}
 use Rattle.listing.proofs.put_field.Tie as tie
@@ -31,9 +30,8 @@ returns c =
     let s = c .before .before .before .before .before in
     let a = s .args in
     let p = c .before .before .put-number in
-    let e : a .end - 1 + 1 ≡ a .end = omega (arith, s) in
     ((omega (arith, s, p .ensures .0 .0), omega (arith, s, p .ensures .0 .1)),
-    p .ensures .1 ∙ ap (λ (x : List ℕ). decimal (a .n) x) (drop-put (a .text .now) (a .end - 1) (a .after) (omega (arith, s)) ∙ ap (λ (k : ℕ). a .after ∷ drop k (a .text .now)) e))
+    p .ensures .1 ∙ ap (λ (x : List ℕ). decimal (a .n) x) (put-before (a .text .now) (a .end) (a .after) (omega (arith, s)) (omega (arith, s))))
 
 pub put-field-spec : {M : Type 1} → statement M
 put-field-spec =

@@ -1,10 +1,15 @@
--- At most a million inputs are replayed. Assumes nothing.
+-- At most a million inputs are replayed, each of them a front part of the buffer. Assumes nothing.
 use mathlib.Core.Path.{_≡_}
 use Prim.Native.Nat.{_-_, _≤_}
-use lib.ListN.{length}
+use native.Mathlib.Omega.{arith}
+use lib.ListN.{length, length-take}
 use borrow.Author.Needs.{needs}
 use Rattle.replay_lines.proofs.replay.Statement.{statement}
 use Rattle.replay_lines.proofs.replay.Tie as tie
+use Rattle.replay_lines.proofs.replay.Reads as reads
+use Rattle.replay_lines.proofs.replay.Lts as lts
+use Rattle.listing.proofs.print_listing.Reads as print-listing-reads
+use Rattle.listing.proofs.replay.next_input.Reads as next-input-reads
 
 abbrev Inv-loop : tie.InvT-loop
 Inv-loop buffer₀ n₀ buffer n = (n ≤ 1000000) × (length buffer ≡ length buffer₀)
@@ -15,8 +20,29 @@ abbrev μ-loop : tie.MeasureT-loop
 loop-holds : tie.Need-loop-holds Inv-loop μ-loop
 loop-holds c = search needs
 
-replay-next-requires : tie.Need-replay-next-requires Inv-loop μ-loop
-replay-next-requires c κs = search needs
+next-input-requires : tie.Need-next-input-requires Inv-loop μ-loop
+next-input-requires c κs = search needs
+
+enum-known-next : tie.Need-enum-known-next Inv-loop μ-loop
+enum-known-next c = search needs
+
+enum-told : tie.Need-enum-told Inv-loop μ-loop
+enum-told c = search needs
+
+same-length : tie.Need-same-length Inv-loop μ-loop
+same-length c = search needs
+
+returns : tie.Need-returns Inv-loop μ-loop
+returns c = search needs
+
+slice-reshare-prefix-print-listing : tie.Need-slice-reshare-prefix-print-listing Inv-loop μ-loop
+slice-reshare-prefix-print-listing c = omega (arith, rw (c .before .next .given .1) at (c .before .before .before .before .before .next-input .ensures))
+
+slice-aggregate-print-listing : tie.Need-slice-aggregate-print-listing Inv-loop μ-loop
+slice-aggregate-print-listing c = simp length-take (omega (arith, rw (c .before .before .next .given .1) at (c .before .before .before .before .before .before .next-input .ensures)))
+
+print-listing-requires : tie.Need-print-listing-requires Inv-loop μ-loop
+print-listing-requires c κs = search needs
 
 add-n : tie.Need-add-n Inv-loop μ-loop
 add-n c = search needs
@@ -26,12 +52,6 @@ loop-less c = search needs
 
 loop-again : tie.Need-loop-again Inv-loop μ-loop
 loop-again c = search needs
-
-same-length : tie.Need-same-length Inv-loop μ-loop
-same-length c = search needs
-
-returns : tie.Need-returns Inv-loop μ-loop
-returns c = search needs
 
 same-length-2 : tie.Need-same-length-2 Inv-loop μ-loop
 same-length-2 c = search needs
@@ -46,11 +66,16 @@ replay-spec =
     Inv-loop
     μ-loop
     loop-holds
-    replay-next-requires
+    next-input-requires
+    enum-known-next
+    enum-told
+    same-length
+    returns
+    slice-reshare-prefix-print-listing
+    slice-aggregate-print-listing
+    print-listing-requires
     add-n
     loop-less
     loop-again
-    same-length
-    returns
     same-length-2
     returns-2)

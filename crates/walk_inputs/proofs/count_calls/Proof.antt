@@ -1,7 +1,5 @@
 -- The call records, cut every step of them. Assumes nothing.
-use mathlib.Core.Path.{_≡_}
 use native.Mathlib.Omega.{arith}
-use lib.ListN.{length}
 use Rattle.walk_inputs.proofs.RunLaws.{calls-as}
 use borrow.Author.Needs.{needs}
 use Rattle.walk_inputs.proofs.count_calls.Statement.{statement}

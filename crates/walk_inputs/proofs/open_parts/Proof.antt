@@ -1,5 +1,5 @@
 -- As much of the buffers as the plan says. Assumes nothing.
-use mathlib.Core.Path.{_≡_, ap, _∙_}
+use mathlib.Core.Path.{ap, _∙_}
 use native.Mathlib.Omega.{arith}
 use lib.ListN.{length-take}
 use Rattle.walk_inputs.specs.declared.Plan.{Plan}

@@ -1,33 +1,33 @@
--- The number read stands within out. Assumes nothing.
+-- Each part ends behind its beginning, and within the offsets. Assumes nothing.
 use mathlib.Core.Path.{_≡_}
 use Prim.Native.Nat.{_-_, _≤_}
+use lib.ListN.{length}
 use borrow.Author.Needs.{needs}
 use Rattle.walk_listing.proofs.print_offsets.Statement.{statement}
 use Rattle.walk_listing.proofs.print_offsets.Tie as tie
+use Rattle.walk_listing.proofs.print_offsets.Reads as reads
+use Rattle.walk_listing.proofs.print_offsets.Lts as lts
+use Rattle.listing.proofs.part_end.Reads as part-end-reads
+use Rattle.walk_listing.proofs.print_some.Reads as print-some-reads
 
 abbrev Inv-loop : tie.InvT-loop
-Inv-loop out n i₀ i = i ≤ n
+Inv-loop out n text₀ i₀ text i =
+    (i ≤ n) × (length text ≡ 2688)
 
 abbrev μ-loop : tie.MeasureT-loop
-μ-loop out n i₀ i = n - i
+μ-loop out n text₀ i₀ text i = n - i
 
 loop-holds : tie.Need-loop-holds Inv-loop μ-loop
 loop-holds c = search needs
 
-returns : tie.Need-returns Inv-loop μ-loop
-returns c = search needs
+part-end-requires : tie.Need-part-end-requires Inv-loop μ-loop
+part-end-requires c κs = search needs
 
-mul-print-offset : tie.Need-mul-print-offset Inv-loop μ-loop
-mul-print-offset c = search needs
+slice-aggregate-print-some : tie.Need-slice-aggregate-print-some Inv-loop μ-loop
+slice-aggregate-print-some c = search needs
 
-shared-slice-read-print-offset : tie.Need-shared-slice-read-print-offset Inv-loop μ-loop
-shared-slice-read-print-offset c = search needs
-
-print-offset-requires : tie.Need-print-offset-requires Inv-loop μ-loop
-print-offset-requires c κs = search needs
-
-add-i : tie.Need-add-i Inv-loop μ-loop
-add-i c = search needs
+print-some-requires : tie.Need-print-some-requires Inv-loop μ-loop
+print-some-requires c κs = search needs
 
 loop-less : tie.Need-loop-less Inv-loop μ-loop
 loop-less c = search needs
@@ -35,8 +35,8 @@ loop-less c = search needs
 loop-again : tie.Need-loop-again Inv-loop μ-loop
 loop-again c = search needs
 
-returns-2 : tie.Need-returns-2 Inv-loop μ-loop
-returns-2 c = search needs
+returns : tie.Need-returns Inv-loop μ-loop
+returns c = search needs
 
 pub print-offsets-spec : {M : Type 1} → statement M
 print-offsets-spec =
@@ -45,11 +45,9 @@ print-offsets-spec =
     Inv-loop
     μ-loop
     loop-holds
-    returns
-    mul-print-offset
-    shared-slice-read-print-offset
-    print-offset-requires
-    add-i
+    part-end-requires
+    slice-aggregate-print-some
+    print-some-requires
     loop-less
     loop-again
-    returns-2)
+    returns)

@@ -1,16 +1,18 @@
 -- The part read is a front part. Assumes nothing.
-use mathlib.Core.Path.{sym}
 use native.Mathlib.Omega.{arith}
-use lib.Seq.{length-take-le}
+use lib.ListN.{length-take}
 use borrow.Author.Needs.{needs}
-use Rattle.replay_walks.proofs.read_part.Statement.{statement}
-use Rattle.replay_walks.proofs.read_part.Tie as tie
+use Rattle.listing.proofs.replay.read_part.Statement.{statement}
+use Rattle.listing.proofs.replay.read_part.Tie as tie
+use Rattle.listing.proofs.replay.read_part.Reads as reads
+use Rattle.listing.proofs.replay.read_part.Lts as lts
+use Rattle.io.proofs.read_full.Reads as read-full-reads
 
 slice-relend-prefix-read-full : tie.Need-slice-relend-prefix-read-full
 slice-relend-prefix-read-full c = search needs
 
 slice-aggregate-read-full : tie.Need-slice-aggregate-read-full
-slice-aggregate-read-full c = sym (length-take-le (c .before .before .args .n) (c .before .before .args .buffer .now) (omega arith))
+slice-aggregate-read-full c = simp length-take (omega arith)
 
 read-full-requires : tie.Need-read-full-requires
 read-full-requires c κs = search needs
