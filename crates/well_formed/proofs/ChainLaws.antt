@@ -22,7 +22,7 @@ use Rattle.well_formed.proofs.PassCode.{slice-back}
 -- ---- buckets
 
 -- equal keys have the same bucket
-pub same-bucket : (size : ℕ) (r q : Rec) → sameFields r q ≡ true → bucketOf size r ≡ bucketOf size q
+same-bucket : (size : ℕ) (r q : Rec) → sameFields r q ≡ true → bucketOf size r ≡ bucketOf size q
 unfolding sameFields bucketOf
 same-bucket size r q e =
     let x = and-true (eqb (r .long) (q .long)) (eqb (r .sub) (q .sub) && eqb (r .half) (q .half)) e in
@@ -30,14 +30,14 @@ same-bucket size r q e =
     rw (eqb-true (r .long) (q .long) (x .0), eqb-true (r .sub) (q .sub) (y .0), eqb-true (r .half) (q .half) (y .1))
 
 -- so entries of other buckets have other keys
-pub other-bucket : (size : ℕ) (r q : Rec) → eqb (bucketOf size q) (bucketOf size r) ≡ false → sameFields r q ≡ false
+other-bucket : (size : ℕ) (r q : Rec) → eqb (bucketOf size q) (bucketOf size r) ≡ false → sameFields r q ≡ false
 other-bucket size r q e = go (sameFields r q) refl
   where
     go : (b : Bool) → sameFields r q ≡ b → b ≡ false
     go true f = absurd (eqb-false (bucketOf size q) (bucketOf size r) e (sym (same-bucket size r q f)))
     go false f = refl
 
-pub latest-within : (size b : ℕ) (rs : List Rec) → latest size b rs ≤ length rs
+latest-within : (size b : ℕ) (rs : List Rec) → latest size b rs ≤ length rs
 unfolding latest
 latest-within size b [] = omega arith
 latest-within size b (r ∷ rs) = go (eqb (bucketOf size r) b) (latest-within size b rs)
@@ -157,7 +157,7 @@ chain-start R heads links to at b r h high e f k c =
 
 -- ---- an entry more
 
-pub chained-none : (heads links : List ℕ) → Cleared heads → Chained heads links []
+chained-none : (heads links : List ℕ) → Cleared heads → Chained heads links []
 unfolding latest
 chained-none heads links z = record { first = λ b h. z b; next = tt }
 
@@ -176,7 +176,7 @@ heads-more heads r rs b e h c d k = rw (← e) (go (eqb b d) refl)
     go false f = getD-set-other heads b d (suc (length rs)) 0 (λ q. eqb-false b d f (sym q)) ∙ c d k
 
 -- an entry becomes the latest of its bucket, and what was the latest is the next
-pub chained-more : (heads links : List ℕ) (r : Rec) (rs : List Rec) (b n : ℕ) → b ≡ bucketOf (length heads) r → b < length heads → n ≡ length rs → n < length links
+chained-more : (heads links : List ℕ) (r : Rec) (rs : List Rec) (b n : ℕ) → b ≡ bucketOf (length heads) r → b < length heads → n ≡ length rs → n < length links
     → Chained heads links rs → Chained (set heads b (n + 1)) (set links n (getD heads b 0)) (r ∷ rs)
 chained-more heads links r rs b n e h f k c =
     let m : length (set heads b (suc (length rs))) ≡ length heads = length-set heads b (suc (length rs)) in
@@ -192,7 +192,7 @@ chained-more heads links r rs b n e h f k c =
 
 -- ---- distinct keys
 
-pub distinct-less : (R : List Rec) (d from i to : ℕ) → from + d ≡ i → i ≤ to → to ≤ length R → distinctKeys (slice i to R) ≡ false → distinctKeys (slice from to R) ≡ false
+distinct-less : (R : List Rec) (d from i to : ℕ) → from + d ≡ i → i ≤ to → to ≤ length R → distinctKeys (slice i to R) ≡ false → distinctKeys (slice from to R) ≡ false
 distinct-less R zero from i to e h k f = let z : from ≡ i = omega arith in rw z f
 distinct-less R (suc d) from i to e h k f =
     let z : distinctKeys (slice (from + 1) to R) ≡ false = distinct-less R d (from + 1) i to (omega arith) h k f in
