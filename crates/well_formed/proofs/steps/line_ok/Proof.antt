@@ -1,6 +1,8 @@
 -- A line record, test by test. Assumes nothing.
-use mathlib.Core.Path.{sym, _∙_}
+use mathlib.Core.Path.{_≡_, sym, _∙_}
+use mathlib.Core.Bool.{not, _||_}
 use borrow.Author.Tests.{eq-eqb, ne-eqb, not-false, not-true}
+use lib.Dec.{eqb}
 use Rattle.well_formed.specs.Pass.{lineStep}
 use Rattle.well_formed.proofs.StepLaws.{line-left}
 use borrow.Author.Needs.{needs}
@@ -58,23 +60,22 @@ returns-4 c =
     (← m .before .mode-of .ensures, eq-eqb _ _ (m .if1 .left), sym (b .before .is-bare .ensures) ∙ not-false _ (b .if2 .left), eq-eqb _ _ (n .if3 .left),
       sym (c .before .is-idle .ensures) ∙ not-true _ (c .if4 .taken))
 
-returns-5 : tie.Need-returns-5
-returns-5 c =
-    let i = c .before in
-    let n = i .before .before in
+-- all but the offset is as it must be
+but-offset : (c : tie.Else4)
+    → let a = c .before .before .before .before .before .before .before .before .args in
+    lineStep (a .dynamic) (a .total) (a .r) (a .s) ≡ (a .dynamic || not (eqb (a .s .offset) 0))
+but-offset c =
+    let n = c .before .before in
     let b = n .before in
     let m = b .before .before in
-    sym (line-left _ _ _ _ (m .if1 .left ∙ m .before .mode-of .ensures) (sym (b .before .is-bare .ensures) ∙ not-false _ (b .if2 .left)) (n .if3 .left)
-    (sym (i .before .is-idle .ensures) ∙ not-false _ (i .if4 .left)) ∙ rw (c .if5 .taken))
+    line-left _ _ _ _ (m .if1 .left ∙ m .before .mode-of .ensures) (sym (b .before .is-bare .ensures) ∙ not-false _ (b .if2 .left)) (n .if3 .left)
+    (sym (c .before .is-idle .ensures) ∙ not-false _ (c .if4 .left))
+
+returns-5 : tie.Need-returns-5
+returns-5 c = sym (but-offset (c .before) ∙ rw (c .if5 .taken))
 
 returns-6 : tie.Need-returns-6
-returns-6 c =
-    let i = c .before in
-    let n = i .before .before in
-    let b = n .before in
-    let m = b .before .before in
-    sym (line-left _ _ _ _ (m .if1 .left ∙ m .before .mode-of .ensures) (sym (b .before .is-bare .ensures) ∙ not-false _ (b .if2 .left)) (n .if3 .left)
-    (sym (i .before .is-idle .ensures) ∙ not-false _ (i .if4 .left)) ∙ rw (c .if5 .left))
+returns-6 c = sym (but-offset (c .before) ∙ rw (c .if5 .left))
 
 pub line-ok-spec : {M : Type 1} → statement M
 line-ok-spec =
