@@ -3,7 +3,8 @@ use crate::forms;
 use crate::Waits;
 use records::Rec;
 ghost use mathlib.Core.Path.{_≡_};
-ghost use Prim.Native.Nat.{_<_};
+ghost use Prim.Native.Nat.{_+_, _<_};
+ghost use lib.Dec.{eqb};
 ghost use lib.ListN.{length};
 ghost use Rattle.indexing.specs.Reading.{pointerFrom};
 ghost use Rattle.well_formed.specs.Pass.{idle, bare, lineStep, tableStep, switchStep, demandStep, deadStep};
@@ -34,14 +35,20 @@ fn is_bare(r: Rec) -> bool
     long == 0
 }
 
+// A line has the number that is due in front of so many lines, total the number of all.
+fn is_due(number: u32, lines: usize, total: usize) -> bool
+    requires { ⌜ lines < 65536 ⌝ }
+    ensures { λ b. ⌜ b ≡ eqb (number + lines + 1) total ⌝ }
+{
+    number as usize + lines + 1 == total
+}
+
 // A line record: it has the number that is due, total the number of all lines, and a static line has an offset.
 fn line_ok(r: Rec, s: Waits, total: usize, dynamic: bool) -> bool
     requires { ⌜ s .lines < 65536 ⌝ }
     ensures { λ b. ⌜ b ≡ lineStep dynamic total r s ⌝ }
 {
     let sub = r.sub;
-    let number = r.word as usize;
-    let lines = s.lines;
     let offset = s.offset;
     if sub != forms::mode_of(dynamic) {
         return false;
@@ -49,7 +56,7 @@ fn line_ok(r: Rec, s: Waits, total: usize, dynamic: bool) -> bool
     if !is_bare(r) {
         return false;
     }
-    if number + lines + 1 != total {
+    if !is_due(r.word, s.lines, total) {
         return false;
     }
     if !is_idle(s) {
