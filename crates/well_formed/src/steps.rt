@@ -15,24 +15,20 @@ ghost use Rattle.well_formed.specs.Pass.{after, marked, reachIn, noted};
 pub fn is_idle(s: Waits) -> bool
     ensures { λ b. ⌜ b ≡ idle s ⌝ }
 {
-    let entries = s.entries;
-    let clause = s.clause;
-    if entries != 0 {
+    if s.entries != 0 {
         return false;
     }
-    clause == 0
+    s.clause == 0
 }
 
 // A record without half and long.
 fn is_bare(r: Rec) -> bool
     ensures { λ b. ⌜ b ≡ bare r ⌝ }
 {
-    let half = r.half;
-    let long = r.long;
-    if half != 0 {
+    if r.half != 0 {
         return false;
     }
-    long == 0
+    r.long == 0
 }
 
 // A line has the number that is due in front of so many lines, total the number of all.
