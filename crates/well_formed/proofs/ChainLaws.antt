@@ -24,7 +24,7 @@ use Rattle.well_formed.proofs.PassCode.{slice-back}
 -- ---- buckets
 
 -- equal keys have the same bucket
-pub same-bucket : (size : ℕ) (r q : Rec) → sameFields r q ≡ true → bucketOf size r ≡ bucketOf size q
+same-bucket : (size : ℕ) (r q : Rec) → sameFields r q ≡ true → bucketOf size r ≡ bucketOf size q
 unfolding sameFields bucketOf
 same-bucket size r q e =
     let x = and-true (eqb (r .long) (q .long)) (eqb (r .sub) (q .sub) && eqb (r .half) (q .half)) e in
@@ -32,7 +32,7 @@ same-bucket size r q e =
     rw (eqb-true (r .long) (q .long) (x .0), eqb-true (r .sub) (q .sub) (y .0), eqb-true (r .half) (q .half) (y .1))
 
 -- so entries of other buckets have other keys
-pub other-bucket : (size : ℕ) (r q : Rec) → eqb (bucketOf size q) (bucketOf size r) ≡ false → sameFields r q ≡ false
+other-bucket : (size : ℕ) (r q : Rec) → eqb (bucketOf size q) (bucketOf size r) ≡ false → sameFields r q ≡ false
 other-bucket size r q e = go (sameFields r q) refl
   where
     go : (b : Bool) → sameFields r q ≡ b → b ≡ false
@@ -108,7 +108,7 @@ module _ (R : List Rec) (links : List ℕ) (to size at : ℕ) (r : Rec) where
 
 -- ---- distinct keys
 
-pub distinct-less : (R : List Rec) (d from i to : ℕ) → from + d ≡ i → i ≤ to → to ≤ length R → distinctKeys (slice i to R) ≡ false → distinctKeys (slice from to R) ≡ false
+distinct-less : (R : List Rec) (d from i to : ℕ) → from + d ≡ i → i ≤ to → to ≤ length R → distinctKeys (slice i to R) ≡ false → distinctKeys (slice from to R) ≡ false
 distinct-less R zero from i to e h k f = let z : from ≡ i = omega arith in rw z f
 distinct-less R (suc d) from i to e h k f =
     let z : distinctKeys (slice (from + 1) to R) ≡ false = distinct-less R d (from + 1) i to (omega arith) h k f in

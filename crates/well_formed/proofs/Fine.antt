@@ -30,14 +30,14 @@ args-first m a (t ∷ ts) h e = le-of (suc a) (argOf t) (and-true (leb (suc a) (
 
 -- ---- the lower of two numbers
 
-pub lower-both : (a m n : ℕ) → a < lower m n → (a < m) × (a < n)
+lower-both : (a m n : ℕ) → a < lower m n → (a < m) × (a < n)
 lower-both a m n = go (ltb m n) refl
   where
     go : (b : Bool) → ltb m n ≡ b → a < cond b m n → (a < m) × (a < n)
     go true e h = omega (arith, ltb-true m n e)
     go false e h = omega (arith, ltb-false m n e)
 
-pub both-lower : (a m n : ℕ) → a < m → a < n → a < lower m n
+both-lower : (a m n : ℕ) → a < m → a < n → a < lower m n
 both-lower a m n h k = go (ltb m n)
   where
     go : (b : Bool) → a < cond b m n

@@ -24,12 +24,12 @@ use Rattle.indexing.specs.Lists.{add, keep, any, every}
 use Rattle.well_formed.proofs.SwitchKeys.{Once, once-keep, once-distinct, group-ok, keys-append}
 use Rattle.well_formed.specs.WellFormed.{risingOk, keyOk, keysOk, entryKeys, tagOk, someOk, choicesOk}
 
-pub rising-lower : (known : ℕ → Bool) (m n : ℕ) (os : List ℕ) → n ≤ m → risingOk known m os ≡ true → risingOk known n os ≡ true
+rising-lower : (known : ℕ → Bool) (m n : ℕ) (os : List ℕ) → n ≤ m → risingOk known m os ≡ true → risingOk known n os ≡ true
 rising-lower known m n [] h e = refl
 rising-lower known m n (o ∷ os) h e =
     let x = and-true (leb m o) (known o && risingOk known (suc o) os) e in both (le-true n o (omega (arith, le-of m o (x .0)))) (x .1)
 
-pub rising-keep : (known : ℕ → Bool) (p : ℕ → Bool) (n : ℕ) (os : List ℕ) → risingOk known n os ≡ true → risingOk known n (keep p os) ≡ true
+rising-keep : (known : ℕ → Bool) (p : ℕ → Bool) (n : ℕ) (os : List ℕ) → risingOk known n os ≡ true → risingOk known n (keep p os) ≡ true
 rising-keep known p n [] e = refl
 rising-keep known p n (o ∷ os) e =
     let x = and-true (leb n o) (known o && risingOk known (suc o) os) e in

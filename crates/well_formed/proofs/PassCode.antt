@@ -29,7 +29,7 @@ drop-take-add (suc f) e [] = let z : suc f + e ≡ suc (f + e) = omega arith in 
 drop-take-add (suc f) e (x ∷ l) = let z : suc f + e ≡ suc (f + e) = omega arith in rw z (drop-take-add f e l)
 
 -- the first e of the records from f up to t
-pub slice-front : {A : Type 0} (f e t : ℕ) (l : List A) → f + e ≤ t → slice f (f + e) l ≡ take e (slice f t l)
+slice-front : {A : Type 0} (f e t : ℕ) (l : List A) → f + e ≤ t → slice f (f + e) l ≡ take e (slice f t l)
 slice-front f e t l h = ap (drop f) (sym (take-take (f + e) t l h)) ∙ drop-take-add f e (take t l)
 
 -- one record more in front
@@ -80,7 +80,7 @@ module _ (arity : ℕ) (dynamic : Bool) (known : ℕ → Bool) (total : ℕ) whe
   unfolding pass
   met-start firsts rs s e f = record { passed = rw e; state = f ∙ rw e; first = rw e (λ d h. absurd (omega arith)) }
 
-  pub met-bound : {rs : List Rec} {s : Waits} {firsts : List ℕ} → Met rs s firsts → (s .lines ≤ length rs) × (s .entries ≤ length rs)
+  met-bound : {rs : List Rec} {s : Waits} {firsts : List ℕ} → Met rs s firsts → (s .lines ≤ length rs) × (s .entries ≤ length rs)
   met-bound {rs} {s} m =
       let b = all-bound rs in
       let l : s .lines ≡ length (readAll rs nothing .lines) = ap (λ (t : Waits). t .lines) (m .state) in
@@ -97,7 +97,7 @@ module _ (arity : ℕ) (dynamic : Bool) (known : ℕ → Bool) (total : ℕ) whe
         ap (λ (b : Bool). cond (eqb (r .kind) 2) b true)
         (once-behind (w .entries) rs (pass-behind arity dynamic known total rs (m .passed)) ∙ ap (λ (n : ℕ). distinctKeys (take n rs)) (sym e))
 
-    pub met-pass : pass arity dynamic known total nothing (r ∷ rs)
+    met-pass : pass arity dynamic known total nothing (r ∷ rs)
         ≡ stepOk arity dynamic known total (r .kind) r s && cond (eqb (r .kind) 2) (distinctKeys (take (s .entries) rs)) true
     unfolding pass
     met-pass = rw (m .passed, ← m .state, keys-are) (last _)
@@ -106,7 +106,7 @@ module _ (arity : ℕ) (dynamic : Bool) (known : ℕ → Bool) (total : ℕ) whe
         last true = refl
         last false = refl
 
-    pub met-more : (rs′ : List Rec) (s′ : Waits) (firsts′ : List ℕ) → rs′ ≡ r ∷ rs → s .lines < length firsts
+    met-more : (rs′ : List Rec) (s′ : Waits) (firsts′ : List ℕ) → rs′ ≡ r ∷ rs → s .lines < length firsts
         → stepOk arity dynamic known total (r .kind) r s ≡ true → cond (eqb (r .kind) 2) (distinctKeys (take (s .entries) rs)) true ≡ true
         → s′ ≡ after (r .kind) r s (reachIn dynamic known firsts (s .lines) (pointerFrom (r .word)))
         → firsts′ ≡ noted (r .kind) (s .lines) (s .first) firsts → Met rs′ s′ firsts′
@@ -138,7 +138,7 @@ module _ (arity : ℕ) (dynamic : Bool) (known : ℕ → Bool) (total : ℕ) whe
       behind-passes w xs ys (and-true (stepOk arity dynamic known total (x .kind) x (waits dynamic known v) && keysOnce (x .kind) (v .entries))
       (pass arity dynamic known total w (xs ++ ys)) e .1)
 
-  pub all-fail : (rs : List Rec) (i : ℕ) → pass arity dynamic known total nothing (drop i rs) ≡ false → pass arity dynamic known total nothing rs ≡ false
+  all-fail : (rs : List Rec) (i : ℕ) → pass arity dynamic known total nothing (drop i rs) ≡ false → pass arity dynamic known total nothing rs ≡ false
   all-fail rs i e =
       not-true (λ f. bool-absurd (behind-passes nothing (take i rs) (drop i rs)
       (ap (pass arity dynamic known total nothing) (take-append-drop i rs) ∙ f)) e)

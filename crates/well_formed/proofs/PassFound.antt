@@ -55,7 +55,7 @@ group-first k (x ∷ es) e =
     le-of (groupOf k) (groupOf l) (and-true (leb (groupOf k) (groupOf l)) (keyOk l && (not (any (same l) ks) && keysOk (groupOf l) ks)) e .0)
 
 module _ (arity : ℕ) (dynamic : Bool) (known : ℕ → Bool) (total : ℕ) where
-  pub pass-append : (w : Waiting) (xs ys : List Rec) → pass arity dynamic known total (readAll ys w) xs ≡ true → pass arity dynamic known total w ys ≡ true
+  pass-append : (w : Waiting) (xs ys : List Rec) → pass arity dynamic known total (readAll ys w) xs ≡ true → pass arity dynamic known total w ys ≡ true
       → pass arity dynamic known total w (xs ++ ys) ≡ true
   unfolding pass
   pass-append w [] ys e f = f

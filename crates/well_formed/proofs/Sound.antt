@@ -72,7 +72,7 @@ module _ (P : Program) (known : ℕ → Bool) (idx : Index) where
       both (rw (add-zero n) at (f 0 (omega arith)))
       (lines-true (suc n) xs (λ i h. let k : n + suc i ≡ suc n + i = omega arith in rw k at (f (suc i) (omega arith))))
 
-  pub index-true : Orderly P idx → All (GoodLine P known) idx → 0 < length idx → indexOk (P .arity) (P .dynamic) known idx ≡ true
+  index-true : Orderly P idx → All (GoodLine P known) idx → 0 < length idx → indexOk (P .arity) (P .dynamic) known idx ≡ true
   index-true o f h = both (T-true (ltb 0 (length idx)) (lt→ltb 0 (length idx) h)) (lines-true 0 idx (λ i k. rw (zero-add i) (each i k)))
     where
       each : (i : ℕ) → i < length idx → lineOk (P .arity) (P .dynamic) known idx i (lineAt idx i) ≡ true
@@ -83,7 +83,7 @@ module _ (P : Program) (known : ℕ → Bool) (idx : Index) where
 
 -- ---- good lines fit their records
 
-pub fit-key : (k : Key) → keyOk k ≡ true → FitKey k
+fit-key : (k : Key) → keyOk k ≡ true → FitKey k
 fit-key None e = tt
 fit-key (Literal s b) e = let x = and-true (leb 1 s) (leb s 3) e in (le-of 1 s (x .0), le-of s 3 (x .1))
 fit-key (Structure n f) e = tt
@@ -181,17 +181,3 @@ module _ (P : Program) (known : ℕ → Bool) (keys : (o a : ℕ) → isOpen (P 
   pub built-ok : (c o : ℕ) (os : List ℕ) → 1 ≤ c → c ≤ P .arity → risingOk known 1 (o ∷ os) ≡ true → indexOk (P .arity) (P .dynamic) known (build P c (o ∷ os)) ≡ true
   built-ok c o os low high e = index-true P known (build P c (o ∷ os)) (built-orderly P c (o ∷ os) low high) (built-good P known keys c o os e)
       (built-length P c (o ∷ os))
-
--- the records of whatever comes of the built index by walks stand for it and are well formed
-module _ (P : Program) (known : ℕ → Bool) (small : (o : ℕ) → known o ≡ true → o < 0x8000_0000)
-    (keys : (o a : ℕ) → isOpen (P .keyOf o a) ≡ false → keyOk (P .keyOf o a) ≡ true)
-    (c o : ℕ) (os : List ℕ) (low : 1 ≤ c) (high : c ≤ P .arity) (starts : risingOk known 1 (o ∷ os) ≡ true) (cap : ℕ) (idx : Index)
-    (g : Grown P cap (build P c (o ∷ os)) idx) where
-  ok : indexOk (P .arity) (P .dynamic) known idx ≡ true
-  ok = grown-ok P known keys cap g (built-ok P known keys c o os low high starts)
-
-  pub grown-parse : parse (records (modeOf (P .dynamic)) 0 idx) ≡ idx
-  grown-parse = ok-parse P known small idx ok
-
-  pub grown-well : wellFormed (P .arity) (P .dynamic) known (records (modeOf (P .dynamic)) 0 idx) ≡ true
-  grown-well = ok-well P known small idx ok

@@ -50,10 +50,10 @@ unfolding after
 after-entry k r s a e = rw e
 
 -- a line record that has all but an offset
-pub line-left : (dynamic : Bool) (total : ℕ) (r : Rec) (s : Waits) → r .sub ≡ modeOf dynamic → bare r ≡ true → r .word + s .lines + 1 ≡ total
-    → idle s ≡ true → lineStep dynamic total r s ≡ (dynamic || not (eqb (s .offset) 0))
+pub line-left : (dynamic : Bool) (total : ℕ) (r : Rec) (s : Waits) → r .sub ≡ modeOf dynamic → bare r ≡ true
+    → eqb (r .word + s .lines + 1) total ≡ true → idle s ≡ true → lineStep dynamic total r s ≡ (dynamic || not (eqb (s .offset) 0))
 unfolding lineStep
-line-left dynamic total r s a b c d = rw (eq-eqb (r .sub) (modeOf dynamic) a, b, eq-eqb (r .word + s .lines + 1) total c, d)
+line-left dynamic total r s a b c d = rw (eq-eqb (r .sub) (modeOf dynamic) a, b, c, d)
 
 -- ---- a pointer's word
 

@@ -20,7 +20,7 @@ abbrev pub Once : List Key → Type 0
 Once [] = Unit {0}
 Once (k ∷ ks) = (any (same k) ks ≡ false) × Once ks
 
-pub any-less : (k : Key) (p : Key → Bool) (ks : List Key) → any (same k) ks ≡ false → any (same k) (keep p ks) ≡ false
+any-less : (k : Key) (p : Key → Bool) (ks : List Key) → any (same k) ks ≡ false → any (same k) (keep p ks) ≡ false
 any-less k p [] e = refl
 any-less k p (l ∷ ks) e = let y = or-false (same k l) (any (same k) ks) e in go (p l) (y .0) (any-less k p ks (y .1))
   where
@@ -55,7 +55,7 @@ keys-parts h l ks e =
     let y = and-true (keyOk l) (not (any (same l) ks) && keysOk (groupOf l) ks) (x .1) in
     (le-of h (groupOf l) (x .0), x .1, and-true (not (any (same l) ks)) (keysOk (groupOf l) ks) (y .1) .1)
 
-pub keys-lower : (g h : ℕ) (ks : List Key) → g ≤ h → keysOk h ks ≡ true → keysOk g ks ≡ true
+keys-lower : (g h : ℕ) (ks : List Key) → g ≤ h → keysOk h ks ≡ true → keysOk g ks ≡ true
 keys-lower g h [] u e = refl
 keys-lower g h (k ∷ ks) u e = let x = keys-parts h k ks e in both (le-true g (groupOf k) (omega (arith, x .0))) (x .1)
 

@@ -48,7 +48,7 @@ turn-of k r w = go (eqb k 1) (eqb k 2) (eqb k 3) (eqb k 4) (eqb k 5) (eqb k 6) r
     go false false false false false false e₁ e₂ e₃ e₄ e₅ e₆ = turn-other e₁ e₂ e₃ e₄ e₅ e₆
 
 -- the state has at most one line and one entry more
-pub turn-bound : {k : ℕ} {r : Rec} {w v : Waiting} → Turn k r w v
+turn-bound : {k : ℕ} {r : Rec} {w v : Waiting} → Turn k r w v
     → (length (v .lines) ≤ suc (length (w .lines))) × (length (v .entries) ≤ suc (length (w .entries)))
 turn-bound (turn-line e) = omega arith
 turn-bound (turn-switch e) = omega arith

@@ -27,7 +27,7 @@ args-of m n (t ∷ ts) e =
     let y = and-true (leb (argOf t) m) (argsOk m (suc (argOf t)) ts) (x .1) in
     (leb→le n (argOf t) (true-T (x .0)), leb→le (argOf t) m (true-T (y .0)), args-of m (suc (argOf t)) ts (y .1))
 
-pub rec-equal : (r s : Rec) → recOk r s ≡ true → r ≡ s
+rec-equal : (r s : Rec) → recOk r s ≡ true → r ≡ s
 rec-equal r s e =
     let a = and-true (eqb (r .kind) (s .kind)) (eqb (r .sub) (s .sub) && (eqb (r .half) (s .half) && (eqb (r .word) (s .word) && eqb (r .long) (s .long)))) e in
     let b = and-true (eqb (r .sub) (s .sub)) (eqb (r .half) (s .half) && (eqb (r .word) (s .word) && eqb (r .long) (s .long))) (a .1) in
@@ -49,7 +49,7 @@ recs-equal (r ∷ rs) (s ∷ ss) e =
     λ i. rec-equal r s (x .0) i ∷ recs-equal rs ss (x .1) i
 
 module _ (P : Program) (known : ℕ → Bool) (idx : Index) where
-  pub pointers-of : (l a : ℕ) (es : List (Entry Ptr)) → every (λ e. pointerOk (P .arity) (P .dynamic) known idx l a (e .to)) es ≡ true → Linked (Beyond (P .arity) idx l a) es es
+  pointers-of : (l a : ℕ) (es : List (Entry Ptr)) → every (λ e. pointerOk (P .arity) (P .dynamic) known idx l a (e .to)) es ≡ true → Linked (Beyond (P .arity) idx l a) es es
   pointers-of l a [] e = linked-nil
   pointers-of l a (x ∷ xs) e =
       let y = and-true (pointerOk (P .arity) (P .dynamic) known idx l a (x .to)) (every (λ e. pointerOk (P .arity) (P .dynamic) known idx l a (e .to)) xs) e in
@@ -63,7 +63,7 @@ module _ (P : Program) (known : ℕ → Bool) (idx : Index) where
           beyond-int (leb→le 1 d (true-T (y .0))) (ltb→lt (l + d) (length idx) (true-T (z .0))) (args-of (P .arity) (suc a) (lineAt idx (l + d) .tables) (z .1))
 
   -- the table found for b is a switch on b, and its pointers are good
-  pub tables-of : (l b c : ℕ) (es : List (Entry Ptr)) (ts : List Table) → every (tableOk (P .arity) (P .dynamic) known idx l) ts ≡ true → find b ts ≡ some (switch c es)
+  tables-of : (l b c : ℕ) (es : List (Entry Ptr)) (ts : List Table) → every (tableOk (P .arity) (P .dynamic) known idx l) ts ≡ true → find b ts ≡ some (switch c es)
       → Linked (Beyond (P .arity) idx l b) es es
   tables-of l b c es [] e f = let z : _≡_ {A = ℕ} 0 1 = cc in absurd (omega arith)
   tables-of l b c es (t ∷ ts) e f =

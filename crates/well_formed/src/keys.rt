@@ -15,19 +15,13 @@ ghost use Rattle.well_formed.specs.Chains.{bucketOf, inBucket, Cleared};
 fn same_fields(r: Rec, q: Rec) -> bool
     ensures { λ b. ⌜ b ≡ sameFields r q ⌝ }
 {
-    let bits = r.long;
-    let other = q.long;
-    if bits != other {
+    if r.long != q.long {
         return false;
     }
-    let sort = r.sub;
-    let other_sort = q.sub;
-    if sort != other_sort {
+    if r.sub != q.sub {
         return false;
     }
-    let arity = r.half;
-    let other_arity = q.half;
-    arity == other_arity
+    r.half == q.half
 }
 
 // Whether the entry at a place has the key of r.

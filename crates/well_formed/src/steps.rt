@@ -3,7 +3,8 @@ use crate::forms;
 use crate::Waits;
 use records::Rec;
 ghost use mathlib.Core.Path.{_≡_};
-ghost use Prim.Native.Nat.{_<_};
+ghost use Prim.Native.Nat.{_+_, _<_};
+ghost use lib.Dec.{eqb};
 ghost use lib.ListN.{length};
 ghost use Rattle.indexing.specs.Reading.{pointerFrom};
 ghost use Rattle.well_formed.specs.Pass.{idle, bare, lineStep, tableStep, switchStep, demandStep, deadStep};
@@ -14,24 +15,28 @@ ghost use Rattle.well_formed.specs.Pass.{after, marked, reachIn, noted};
 pub fn is_idle(s: Waits) -> bool
     ensures { λ b. ⌜ b ≡ idle s ⌝ }
 {
-    let entries = s.entries;
-    let clause = s.clause;
-    if entries != 0 {
+    if s.entries != 0 {
         return false;
     }
-    clause == 0
+    s.clause == 0
 }
 
 // A record without half and long.
 fn is_bare(r: Rec) -> bool
     ensures { λ b. ⌜ b ≡ bare r ⌝ }
 {
-    let half = r.half;
-    let long = r.long;
-    if half != 0 {
+    if r.half != 0 {
         return false;
     }
-    long == 0
+    r.long == 0
+}
+
+// A line has the number that is due in front of so many lines, total the number of all.
+fn is_due(number: u32, lines: usize, total: usize) -> bool
+    requires { ⌜ lines < 65536 ⌝ }
+    ensures { λ b. ⌜ b ≡ eqb (number + lines + 1) total ⌝ }
+{
+    number as usize + lines + 1 == total
 }
 
 // A line record: it has the number that is due, total the number of all lines, and a static line has an offset.
@@ -40,8 +45,6 @@ fn line_ok(r: Rec, s: Waits, total: usize, dynamic: bool) -> bool
     ensures { λ b. ⌜ b ≡ lineStep dynamic total r s ⌝ }
 {
     let sub = r.sub;
-    let number = r.word as usize;
-    let lines = s.lines;
     let offset = s.offset;
     if sub != indexing::mode_of(dynamic) {
         return false;
@@ -49,7 +52,7 @@ fn line_ok(r: Rec, s: Waits, total: usize, dynamic: bool) -> bool
     if !is_bare(r) {
         return false;
     }
-    if number + lines + 1 != total {
+    if !is_due(r.word, s.lines, total) {
         return false;
     }
     if !is_idle(s) {

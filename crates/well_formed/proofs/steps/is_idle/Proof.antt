@@ -12,7 +12,7 @@ returns c = simp (ne-eqb _ _ (c .if1 .taken))
 
 returns-2 : tie.Need-returns-2
 unfolding idle
-returns-2 c = simp (eq-eqb _ _ (c .if1 .left))
+returns-2 c = simp (eq-eqb _ _ (c .before .if1 .left))
 
 pub is-idle-spec : {M : Type 1} → statement M
 is-idle-spec = tie.close (tie.spec returns returns-2)
