@@ -61,6 +61,9 @@ module _ {b₀ : List ℕ} {p : ℕ} {t : List Rec} {q : ℕ} {b : List ℕ} whe
 pub one-room : {t : List Rec} {r : Rec} {q n : ℕ} → t ≡ r ∷ [] → q + length t ≤ n → q < n
 one-room {t} e h = let l : length t ≡ 1 = ap length e in omega arith
 
+pub room-as : {s t : List Rec} {n : ℕ} (q : ℕ) → t ≡ s → q + length t ≤ n → q + length s ≤ n
+room-as {s} {t} q e h = let l : length t ≡ length s = ap length e in omega arith
+
 pub puts-one : (b b′ : List ℕ) (q : ℕ) {r r′ : Rec} {t : List Rec} → t ≡ r′ ∷ [] → r ≡ r′ → q + length t ≤ length (recordsOf b)
     → Wrote b b′ (set (recordsOf b) q r) → Puts b b′ q (q + 1) t
 puts-one b b′ q {r} {r′} {t} e f h w =
