@@ -1,11 +1,10 @@
 -- Laws of a line's buckets, of the switch's entries and of their numbers. Assumes nothing.
-use mathlib.Core.Path.{_≡_, refl, ap, ap₂, _∙_}
+use mathlib.Core.Path.{_≡_, refl, ap, _∙_}
 use Prim.Native.Nat.{ℕ, _+_, _≤_, _<_}
 use native.Mathlib.Omega.{arith}
 use mathlib.Core.Bool.{Bool, true, false, cond}
-use mathlib.Core.List.{List, [], _∷_, _++_, append-assoc}
+use mathlib.Core.List.{List, [], _∷_, _++_}
 use lib.ListN.{length, getD, length-append}
-use Rattle.records.specs.declared.Rec.{Rec}
 use Rattle.records.specs.Records.{rec}
 use Rattle.indexing.specs.Upto.{one, countTo}
 use Rattle.indexing.specs.Columns.{sizeOf, sizesTo, needsLine, opensBucket, opensLine, linesTo, emptyList, listLines}
@@ -27,6 +26,9 @@ module _ (leaders heads : List ℕ) (dynamic : Bool) (g : ℕ) where
   pub lines-none : linesTo leaders heads dynamic g 0 ≡ 0
   unfolding linesTo countTo
   lines-none = refl
+
+  pub lines-start : (d : ℕ) → d ≡ d + linesTo leaders heads dynamic g 0
+  lines-start d = omega (arith, lines-none)
 
   pub lines-step : (i : ℕ) → linesTo leaders heads dynamic g (i + 1) ≡ linesTo leaders heads dynamic g i + one (opensLine leaders heads dynamic g i)
   unfolding linesTo
@@ -125,3 +127,6 @@ distance-next h k u = omega arith
 
 pub distance-small : {n d x y : ℕ} → n ≤ 1024 → d ≤ 65536 → x ≤ n + 1 → y ≤ n → d + x + y + n < 2147483648
 distance-small h k u v = omega arith
+
+pub distance-at : {n i k x : ℕ} (d : ℕ) → k ≡ d + x → x ≤ i → i < n → d + n < 2147483648 → k < 2147483648
+distance-at d e h l m = omega arith

@@ -4,13 +4,13 @@ use mathlib.Core.Path.{_≡_, refl, sym, ap, _∙_}
 use mathlib.Core.Logic.{_≢_}
 use mathlib.Core.Bool.{Bool, true, false, cond}
 use mathlib.Core.List.{List}
-use Prim.Native.Nat.{ℕ, zero, suc, _+_, _≤_, _<_}
+use Prim.Native.Nat.{ℕ, suc, _+_, _≤_, _<_}
 use native.Mathlib.Decide.{ℕ-discrete}
 use native.Mathlib.Omega.{arith}
 use borrow.Author.Tests.{ltb-true, ltb-false}
 use lib.Dec.{eqb, ltb}
 use lib.ListN.{length, getD, set}
-use Rattle.indexing.proofs.Tests.{eqb-same, eqb-true, eqb-other, bool-absurd, not-true}
+use Rattle.indexing.proofs.Tests.{eqb-same, eqb-true, eqb-other, bool-absurd}
 use Rattle.indexing.proofs.BridgeColumns.{leader-first, lt-true, lt-false}
 use Rattle.indexing.specs.Columns.{sameAt, leaderOf}
 use Rattle.indexing.specs.Chains.{Chained}

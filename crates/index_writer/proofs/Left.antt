@@ -9,7 +9,8 @@ use Rattle.records.specs.declared.Rec.{Rec}
 use Rattle.records.specs.Records.{recordsOf, oddOf, Wrote}
 use Rattle.records.specs.Moves.{written}
 use Rattle.records.proofs.Laws.{same-count, wrote, wrote-is}
-use Rattle.records.proofs.Grown.{written-written, set-one}
+use Rattle.records.proofs.Grown.{written-written, set-one, wrote-none, wrote-one, wrote-as}
+use Rattle.index_writer.specs.Writing.{Puts}
 
 -- the records rest, written into b from place q on, will have written t into b₀ from place p on
 pub record Left (b₀ : List ℕ) (p : ℕ) (t : List Rec) (q : ℕ) (rest : List Rec) (b : List ℕ) : Type 0 where
@@ -52,5 +53,24 @@ module _ {b₀ : List ℕ} {p : ℕ} {t : List Rec} {q : ℕ} {b : List ℕ} whe
 
   -- a callee wrote all that was left
   pub left-all : (b′ : List ℕ) (q′ : ℕ) (x : List Rec) → Left b₀ p t q x b → q′ ≡ q + length x → length b′ ≡ length b
-      → Wrote b b′ (written (recordsOf b) q x) → (q′ ≡ p + length t) × Wrote b₀ b′ (written (recordsOf b₀) p t)
+      → Wrote b b′ (written (recordsOf b) q x) → Puts b₀ b′ p q′ t
   left-all b′ q′ x L e f w = (e ∙ L .end, wrote b₀ b′ (written (recordsOf b₀) p t) (f ∙ L .same) (w .records ∙ L .done) (w .odd ∙ L .odd))
+
+-- ---- a writer of one record, of none, and of a run that has another name
+
+pub one-room : {t : List Rec} {r : Rec} {q n : ℕ} → t ≡ r ∷ [] → q + length t ≤ n → q < n
+one-room {t} e h = let l : length t ≡ 1 = ap length e in omega arith
+
+pub room-as : {s t : List Rec} {n : ℕ} (q : ℕ) → t ≡ s → q + length t ≤ n → q + length s ≤ n
+room-as {s} {t} q e h = let l : length t ≡ length s = ap length e in omega arith
+
+pub puts-one : (b b′ : List ℕ) (q : ℕ) {r r′ : Rec} {t : List Rec} → t ≡ r′ ∷ [] → r ≡ r′ → q + length t ≤ length (recordsOf b)
+    → Wrote b b′ (set (recordsOf b) q r) → Puts b b′ q (q + 1) t
+puts-one b b′ q {r} {r′} {t} e f h w =
+    (ap (λ (l : List Rec). q + length l) (sym e), wrote-one b b′ q r r′ t (one-room e h) f e w)
+
+pub puts-none : (b : List ℕ) (q : ℕ) {t : List Rec} → t ≡ [] → Puts b b q q t
+puts-none b q {t} e = let l : length t ≡ 0 = ap length e in (omega arith, wrote-none b q t e)
+
+pub puts-as : (b b′ : List ℕ) (q q′ : ℕ) {s t : List Rec} → t ≡ s → Puts b b′ q q′ s → Puts b b′ q q′ t
+puts-as b b′ q q′ {s} {t} e w = (w .0 ∙ ap (λ (l : List Rec). q + length l) (sym e), wrote-as b b′ q s t (sym e) (w .1))

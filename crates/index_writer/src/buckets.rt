@@ -174,8 +174,9 @@ fn put_entry(
 {
     if opens_bucket(leaders, heads, g, i) {
         let word = pointer_to(leaders, sizes, dynamic, i, d, offs[i]);
-        let sub = (heads[i] / 65536 % 256) as u8;
-        let half = (heads[i] % 65536) as u16;
+        let head = heads[i];
+        let sub = (head / 65536 % 256) as u8;
+        let half = (head % 65536) as u16;
         records::put(
             index,
             q,

@@ -184,6 +184,16 @@ pub fn count_sizes(leaders: &[u32], sizes: &mut [u32])
     }
 }
 
+// The leaders of the clauses, and the sizes of the buckets that they lead.
+fn lead_columns(heads: &[u32], bits: &[u64], leaders: &mut [u32], sizes: &mut [u32])
+    requires { ⌜ (length (now bits) ≡ length (now heads)) × (length (now leaders) ≡ length (now heads)) × (length (now sizes) ≡ length (now heads)) × (length (now heads) ≤ 1024) ⌝ }
+    ensures { λ _. ⌜ now (leaders .exit) ≡ leadersTo (now (heads .entry)) (now (bits .entry)) (length (now (heads .entry))) ⌝ }
+    ensures { λ _. ⌜ now (sizes .exit) ≡ sizesTo (now (leaders .exit)) (length (now (leaders .exit))) ⌝ }
+{
+    find_leaders(heads, bits, leaders);
+    count_sizes(leaders, sizes);
+}
+
 // Whether an argument, counted from 0, is one of the n arguments and has head 0.
 fn open_number(heads: &[u32], n: usize, b: usize) -> u8
     requires { ⌜ n ≤ length (now heads) ⌝ }
@@ -288,8 +298,7 @@ pub fn fill_columns(
     ensures { λ _. ⌜ ColumnsOf (keyOf classOf (recordsOf (now (code .entry))) (now (starts .entry))) arity (now (offs .entry)) a (now (leaders .exit)) (now (heads .exit)) (now (sizes .exit)) (now (whole .exit)) (now (bits .exit)) (now (opens .exit)) ⌝ }
 {
     read_keys(code, starts, arity, offs, a, heads, bits, opens);
-    find_leaders(heads, bits, leaders);
-    count_sizes(leaders, sizes);
+    lead_columns(heads, bits, leaders, sizes);
     zeros(whole);
 }
 

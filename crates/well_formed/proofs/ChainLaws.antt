@@ -4,12 +4,11 @@ use mathlib.Core.Path.{_≡_, refl, sym, _∙_, ap}
 use mathlib.Core.Bool.{Bool, true, false, not, _&&_, _||_}
 use mathlib.Core.List.{List, [], _∷_}
 use Prim.Native.Nat.{ℕ, zero, suc, _+_, _-_, _≤_, _<_}
-use native.Mathlib.Numerals.{add-one}
 use native.Mathlib.Omega.{arith}
 use borrow.Author.Tests.{eqb-true, eqb-false}
 use lib.Dec.{eqb}
 use lib.ListN.{length, getD, set, length-set}
-use lib.Seq.{slice, slice-empty, getD-set-same, getD-set-other, length-slice}
+use lib.Seq.{slice, slice-empty, length-slice}
 use Rattle.records.specs.declared.Rec.{Rec}
 use Rattle.records.specs.Records.{none}
 use Rattle.indexing_iter.proofs.Parts.{slice-done}

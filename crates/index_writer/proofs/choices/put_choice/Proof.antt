@@ -1,15 +1,29 @@
 -- `choices::put_choice` writes one offset or none. Assumes nothing.
 use borrow.Author.Needs.{needs}
-use mathlib.Core.Path.{sym, ap, _∙_}
-use Prim.Native.Nat.{ℕ}
+use mathlib.Core.Path.{_≡_, sym, ap, _∙_}
+use mathlib.Core.List.{_∷_, []}
+use Prim.Native.Nat.{ℕ, _<_}
 use native.Mathlib.Omega.{arith}
 use lib.ListN.{length, getD}
-use Rattle.records.specs.Records.{rec}
+use Rattle.records.specs.Records.{rec, recordsOf}
 use Rattle.records.proofs.Laws.{length-recordsOf}
-use Rattle.records.proofs.Grown.{wrote-none, wrote-one}
+use Rattle.indexing.specs.Columns.{tagAt, choiceAt}
+use Rattle.index_writer.proofs.Left.{one-room, puts-one, puts-none}
 use Rattle.index_writer.proofs.LineLaws.{choice-yes, choice-no}
 use Rattle.index_writer.proofs.choices.put_choice.Statement.{statement}
 use Rattle.index_writer.proofs.choices.put_choice.Tie as tie
+
+-- clause j is in the bucket, so its offset is to be written, and there is room for it
+member : (t : tie.Then1)
+    → let a = t .before .before .before .before .before .before .args in
+    choiceAt (a .leaders .now) (a .offs .now) (a .tags .now) (a .dynamic) (a .default) (a .n) (a .i) (a .k) (a .j)
+    ≡ rec 6 (tagAt (a .dynamic) (a .default) (getD (a .tags .now) (a .j) 0) (a .n) (a .k)) 0 (getD (a .offs .now) (a .j) 0) 0 ∷ []
+member t =
+    let a = t .before .before .before .before .before .before .args in
+    choice-yes (a .leaders .now) (a .offs .now) (a .tags .now) (a .dynamic) (a .default) (a .i) (a .n) (a .k) (a .j) (sym (t .before .in-bucket .ensures) ∙ t .if1 .taken)
+
+room : (t : tie.Then1) → let a = t .before .before .before .before .before .before .args in a .q < length (recordsOf (a .index .now))
+room t = one-room (member t) (t .before .before .before .before .before .before .pre .1)
 
 in-bucket-requires : tie.Need-in-bucket-requires
 in-bucket-requires c κs = search needs
@@ -27,41 +41,26 @@ shared-slice-read-t21 : tie.Need-shared-slice-read-t21
 shared-slice-read-t21 c = search needs
 
 put-requires : tie.Need-put-requires
-put-requires c κs =
-    let s = c .before .before .before .before .before .before .before .before .before .before in
-    let a = s .args in
-    let e = sym (c .before .before .before .before .before .in-bucket .ensures) ∙ c .before .before .before .before .if1 .taken in
-    let y = choice-yes (a .leaders .now) (a .offs .now) (a .tags .now) (a .dynamic) (a .default) (a .i) (a .n) (a .k) (a .j) e in
-    omega (arith, ap length y, s)
+put-requires c κs = room (c .before .before .before .before)
 
 add-result : tie.Need-add-result
-add-result c =
-    let s = c .before .before .before .before .before .before .before .before .before .before .before .before .before in
-    let a = s .args in
-    let e = sym (c .before .before .before .before .before .before .before .before .in-bucket .ensures) ∙ c .before .before .before .before .before .before .before .if1 .taken in
-    let y = choice-yes (a .leaders .now) (a .offs .now) (a .tags .now) (a .dynamic) (a .default) (a .i) (a .n) (a .k) (a .j) e in
-    omega (arith, ap length y, length-recordsOf (a .index .now), s)
+add-result c = omega (arith, room (c .before .before .before .before .before .before .before), length-recordsOf (c .before .before .before .before .before .before .before .before .before .before .before .before .before .args .index .now))
 
 same-length : tie.Need-same-length
 same-length c = search needs
 
 returns : tie.Need-returns
 returns c =
-    let s = c .before .before .before .before .before .before .before .before .before .before .before .before .before in
-    let a = s .args in
-    let e = sym (c .before .before .before .before .before .before .before .before .in-bucket .ensures) ∙ c .before .before .before .before .before .before .before .if1 .taken in
-    let y = choice-yes (a .leaders .now) (a .offs .now) (a .tags .now) (a .dynamic) (a .default) (a .i) (a .n) (a .k) (a .j) e in
+    let t = c .before .before .before .before .before .before .before in
+    let a = t .before .before .before .before .before .before .args in
     let w = c .before .before .put in
     let r = ap (λ (t : ℕ). rec 6 t 0 (getD (a .offs .now) (a .j) 0) 0) (c .before .before .before .before .before .tag .ensures) in
-    (omega (arith, ap length y), wrote-one (a .index .now) (w .last .0) (a .q) _ _ _ (omega (arith, ap length y, s)) r y (w .ensures))
+    puts-one (a .index .now) (w .last .0) (a .q) (member t) r (t .before .before .before .before .before .before .pre .1) (w .ensures)
 
 returns-2 : tie.Need-returns-2
 returns-2 c =
-    let s = c .before .before .before .before .before .before in
-    let a = s .args in
-    let e = sym (c .before .in-bucket .ensures) ∙ c .if1 .left in
-    let y = choice-no (a .leaders .now) (a .offs .now) (a .tags .now) (a .dynamic) (a .default) (a .i) (a .n) (a .k) (a .j) e in
-    (omega (arith, ap length y), wrote-none (a .index .now) (a .q) _ y)
+    let a = c .before .before .before .before .before .before .args in
+    puts-none (a .index .now) (a .q) (choice-no (a .leaders .now) (a .offs .now) (a .tags .now) (a .dynamic) (a .default) (a .i) (a .n) (a .k) (a .j) (sym (c .before .in-bucket .ensures) ∙ c .if1 .left))
 
 pub put-choice-spec : {M : Type 1} → statement M
 put-choice-spec =

@@ -1,11 +1,8 @@
 -- `choices::put_choices` writes the offsets of a bucket: what stands before turn j is as many records as clause i leads among the first j clauses. Assumes nothing.
-use mathlib.Core.Path.{_≡_, refl, ap, ap₂, _∙_}
-use mathlib.Core.List.{List}
-use Prim.Native.Nat.{ℕ, _+_, _-_}
+use mathlib.Core.Path.{_≡_, refl, ap₂}
+use Prim.Native.Nat.{ℕ, _-_}
 use native.Mathlib.Omega.{arith}
 use lib.ListN.{length}
-use Rattle.records.specs.declared.Rec.{Rec}
-use Rattle.records.proofs.Grown.{wrote-as}
 use Rattle.indexing.specs.Upto.{countTo}
 use Rattle.indexing.specs.Columns.{member, sizeOf, choiceAt, choices}
 use Rattle.index_writer.proofs.Upto.{count-le}
@@ -35,9 +32,8 @@ put-choice-requires c κs =
     let l = c .before .before in
     let a = c .before .before .before .before .before .before .before .args in
     let k : l .loop .q - a .p ≡ countTo (member (a .leaders .now) (a .i)) (l .loop .j) = omega (arith, l .loop .inv .2 .grown .next, length-members (a .leaders .now) (a .offs .now) (a .tags .now) (a .dynamic) (a .default) (a .i) (l .loop .j)) in
-    let m = ap₂ (λ (x y : ℕ). length (choiceAt (a .leaders .now) (a .offs .now) (a .tags .now) (a .dynamic) (a .default) x (a .i) y (l .loop .j))) (l .loop .inv .1) k in
-    let r = gather-room (l .loop .inv .2) (omega arith) in
-    (omega (arith, count-le (member (a .leaders .now) (a .i)) (l .loop .j)), omega arith)
+    let m = ap₂ (λ (x y : ℕ). choiceAt (a .leaders .now) (a .offs .now) (a .tags .now) (a .dynamic) (a .default) x (a .i) y (l .loop .j)) (l .loop .inv .1) k in
+    (omega (arith, count-le (member (a .leaders .now) (a .i)) (l .loop .j)), gather-room _ (l .loop .inv .2) (c .before .loop-test .taken) m)
 
 add-j : tie.Need-add-j Inv-loop μ-loop
 add-j c = omega arith
@@ -54,8 +50,7 @@ loop-again c =
     let m = ap₂ (λ (x y : ℕ). choiceAt (a .leaders .now) (a .offs .now) (a .tags .now) (a .dynamic) (a .default) x (a .i) y (l .loop .j)) (l .loop .inv .1) k in (
       refl,
       l .loop .inv .1,
-      gather-more (w .last .0) (w .result) (l .loop .inv .2) (omega arith) (w .ensures .0 ∙ ap (λ (x : List Rec). l .loop .q + length x) m) (w .kept .0)
-          (wrote-as (l .loop .index) (w .last .0) (l .loop .q) _ _ m (w .ensures .1)),
+      gather-more (w .last .0) (w .result) _ (l .loop .inv .2) (c .before .before .before .before .loop-test .taken) m (w .kept .0) (w .ensures),
     )
 
 same-length : tie.Need-same-length Inv-loop μ-loop
@@ -63,7 +58,7 @@ same-length c = c .before .loop .inv .2 .grown .same
 
 returns : tie.Need-returns Inv-loop μ-loop
 unfolding choices
-returns c = gather-end (c .before .loop .inv .2) (omega arith)
+returns c = gather-end (c .before .loop .inv .2) (c .loop-test .left)
 
 pub put-choices-spec : {M : Type 1} → statement M
 put-choices-spec =

@@ -1,9 +1,8 @@
 -- The leaders before the present one of the chain tell which leads clause j: clauses passed over lead none of its bucket. Assumes nothing.
-use mathlib.Core.Path.{_≡_, sym, _∙_}
+use mathlib.Core.Path.{sym, _∙_}
 use Prim.Native.Nat.{_-_, _≤_}
 use native.Mathlib.Omega.{arith}
 use borrow.Author.Needs.{needs}
-use lib.ListN.{length, getD}
 use Rattle.index_writer.proofs.LeaderLaws.{At, leader-found, leader-own, leader-start, leader-less, leader-next}
 use Rattle.index_writer.proofs.columns.chained_leader.Statement.{statement}
 use Rattle.index_writer.proofs.columns.chained_leader.Tie as tie

@@ -1,5 +1,5 @@
 -- A clause that leads joins its bucket, another one none. Assumes nothing.
-use mathlib.Core.Path.{_≡_, refl, sym, _∙_}
+use mathlib.Core.Path.{sym, _∙_}
 use native.Mathlib.Omega.{arith}
 use Rattle.index_writer.specs.Chains.{bucketAt}
 use Rattle.index_writer.proofs.LeaderLaws.{leader-pushed, leader-passed}

@@ -27,8 +27,8 @@ loop-holds c =
 
 put-dead-clause-requires : tie.Need-put-dead-clause-requires Inv-loop μ-loop
 put-dead-clause-requires c κs =
-    let r = gather-room (c .before .before .loop .inv .1) (omega arith) in
-    (omega arith, (omega arith, r))
+    let s = c .before .before .before .before .before .before .before in
+    (s .pre .0, (omega arith, gather-room _ (c .before .before .loop .inv .1) (c .before .loop-test .taken) refl))
 
 add-j : tie.Need-add-j Inv-loop μ-loop
 add-j c = omega arith
@@ -39,14 +39,14 @@ loop-less c = omega arith
 loop-again : tie.Need-loop-again Inv-loop μ-loop
 loop-again c =
     let w = c .before .before .put-dead-clause in
-    (refl, gather-more (w .last .0) (w .result) (c .before .before .before .before .before .loop .inv .1) (omega arith) (w .ensures .0) (w .kept .0) (w .ensures .1))
+    (refl, gather-more (w .last .0) (w .result) _ (c .before .before .before .before .before .loop .inv .1) (c .before .before .before .before .loop-test .taken) refl (w .kept .0) (w .ensures))
 
 same-length : tie.Need-same-length Inv-loop μ-loop
 same-length c = c .before .loop .inv .1 .grown .same
 
 returns : tie.Need-returns Inv-loop μ-loop
 unfolding deadClauses
-returns c = gather-end (c .before .loop .inv .1) (omega arith)
+returns c = gather-end (c .before .loop .inv .1) (c .loop-test .left)
 
 pub put-dead-clauses-spec : {M : Type 1} → statement M
 put-dead-clauses-spec =

@@ -1,4 +1,5 @@
 -- `later_tables::put_tables` writes the tables of a line: turn t writes that for argument b + t. Assumes nothing.
+use mathlib.Core.Path.{refl}
 use Prim.Native.Nat.{_+_, _-_}
 use native.Mathlib.Omega.{arith}
 use Rattle.indexing.specs.Columns.{tableAt, tablesAt}
@@ -24,8 +25,8 @@ add-put-table c = omega arith
 
 put-table-requires : tie.Need-put-table-requires Inv-loop μ-loop
 put-table-requires c κs =
-    let r = gather-room (c .before .before .loop .inv) (omega arith) in
-    (omega arith, (omega arith, r))
+    let s = c .before .before .before .before .before .before .before in
+    (s .pre .0, (omega arith, gather-room _ (c .before .before .loop .inv) (c .before .loop-test .taken) refl))
 
 add-t : tie.Need-add-t Inv-loop μ-loop
 add-t c = omega arith
@@ -36,14 +37,14 @@ loop-less c = omega arith
 loop-again : tie.Need-loop-again Inv-loop μ-loop
 loop-again c =
     let w = c .before .before .put-table in
-    gather-more (w .last .0) (w .result) (c .before .before .before .before .before .loop .inv) (omega arith) (w .ensures .0) (w .kept .0) (w .ensures .1)
+    gather-more (w .last .0) (w .result) _ (c .before .before .before .before .before .loop .inv) (c .before .before .before .before .loop-test .taken) refl (w .kept .0) (w .ensures)
 
 same-length : tie.Need-same-length Inv-loop μ-loop
 same-length c = c .before .loop .inv .grown .same
 
 returns : tie.Need-returns Inv-loop μ-loop
 unfolding tablesAt
-returns c = gather-end (c .before .loop .inv) (omega arith)
+returns c = gather-end (c .before .loop .inv) (c .loop-test .left)
 
 pub put-tables-spec : {M : Type 1} → statement M
 put-tables-spec =
