@@ -19,8 +19,9 @@ use Rattle.records.proofs.Filled.{Filled}
 use Rattle.indexing_iter.specs.declared.OptArgIndexKey.{OptArgIndexKey as Key}
 use Rattle.indexing_iter.specs.declared.OptArgIndexKey.the-variants.{List as ListKey, Literal, None, Structure}
 use Rattle.indexing_iter.specs.declared.Checked.the-variants.{Passed}
-use Rattle.indexing_iter.specs.Keys.{isOpen, headOf}
-use Rattle.indexing_iter.specs.Clauses.{keyOf, keysOf, known, offsetsOf}
+use Rattle.indexing_iter.specs.Keys.{isOpen}
+use Rattle.indexing_iter.specs.Clauses.{keyOf, known, offsetsOf}
+use Rattle.indexing_iter.specs.Rows.{headOf, keysOf}
 use Rattle.indexing_iter.specs.Checks.{checkCode, risingBelow}
 use Rattle.indexing_iter.proofs.CheckLaws.{rising-tail, rising-head, end-below}
 use Rattle.indexing_iter.proofs.SameKeys.{KeyInRange}
@@ -82,13 +83,6 @@ module _ (heads bits : List ℕ) where
       let l : length leaders ≡ n = ap length e ∙ length-leaders n in
       let g : getD leaders i 0 ≡ leaderOf heads bits i = ap (λ (x : List ℕ). getD x i 0) e ∙ getD-leaders n i (omega arith) in
       omega (arith, leader-first heads bits i .high)
-
--- so is 0, the leader in a column of zeros
-pub zeros-below : (leaders : List ℕ) (n : ℕ) → leaders ≡ replicate n 0 → AllBelow (length leaders) leaders
-zeros-below leaders n e i h =
-    let l : length leaders ≡ n = ap length e ∙ length-replicate n 0 in
-    let g : getD leaders i 0 ≡ 0 = ap (λ (x : List ℕ). getD x i 0) e ∙ getD-replicate n i 0 0 (omega arith) in
-    omega arith
 
 -- ---- sizes
 

@@ -8,7 +8,8 @@ use mathlib.Core.Bool.{Bool, true, false, cond, not}
 use mathlib.Core.List.{List}
 use lib.Dec.{eqb, ltb, leb→le}
 use lib.ListN.{length, getD}
-use Rattle.indexing_iter.specs.Keys.{sortOf, arityOf, bitsOf, groupOf, isOpen, same, headOf}
+use Rattle.indexing_iter.specs.Keys.{sortOf, arityOf, bitsOf, groupOf, isOpen, same}
+use Rattle.indexing_iter.specs.Rows.{headOf}
 use Rattle.indexing_iter.specs.declared.OptArgIndexKey.{OptArgIndexKey as Key}
 use Rattle.indexing_iter.specs.declared.OptArgIndexKey.the-variants.{List as ListKey, Literal, None, Structure}
 use Rattle.indexing.proofs.BridgeLists.{any-hit, any-clear, length-each, getD-each}

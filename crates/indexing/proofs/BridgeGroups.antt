@@ -172,17 +172,6 @@ module _ (P : Program) (a : ℕ) (cs : List Choice) where
         ∙ list-cong (λ j. cond (same (key j) (key i)) (getD (offs cs) j 0 ∷ []) []) (λ j. cond (member leaders i j) (getD (offs cs) j 0 ∷ []) []) clauses
           (λ j k. ap (λ (b : Bool). cond b (getD (offs cs) j 0 ∷ []) []) (sym (member-is (P .keyOf) (offs cs) a ranged i j h k l)))
 
-    -- the same as choices, with their tags
-    pub bucketOf-is : (i : ℕ) (d : Choice) → i < clauses → leads leaders i ≡ true
-        → bucketOf P a cs (key i) ≡ listTo (λ j. cond (member leaders i j) (getD cs j d ∷ []) []) clauses
-    bucketOf-is i d h l =
-        keep-places (λ c. same (P .keyOf (c .offset) a) (key i)) cs d
-        ∙ ap (listTo (λ j. cond (same (P .keyOf (getD cs j d .offset) a) (key i)) (getD cs j d ∷ []) [])) (sym (length-offs cs))
-        ∙ list-cong (λ j. cond (same (P .keyOf (getD cs j d .offset) a) (key i)) (getD cs j d ∷ []) [])
-          (λ j. cond (member leaders i j) (getD cs j d ∷ []) []) clauses
-          (λ j k. ap (λ (b : Bool). cond b (getD cs j d ∷ []) [])
-          (ap (λ (o : ℕ). same (P .keyOf o a) (key i)) (getD-offs cs j d k) ∙ sym (member-is (P .keyOf) (offs cs) a ranged i j h k l)))
-
     pub size-is : (i : ℕ) → i < clauses → leads leaders i ≡ true → sizeOf leaders i ≡ length (bucket P a (offs cs) (key i))
     unfolding sizeOf
     size-is i h l =

@@ -13,7 +13,8 @@ use Rattle.records.specs.declared.Rec.{Rec}
 use Rattle.records.specs.Records.{rec}
 use Rattle.indexing_iter.specs.declared.OptArgIndexKey.{OptArgIndexKey as Key}
 use Rattle.indexing_iter.specs.declared.Settings.{Settings}
-use Rattle.indexing_iter.specs.Keys.{isOpen, headOf, bitsOf}
+use Rattle.indexing_iter.specs.Keys.{isOpen, bitsOf}
+use Rattle.indexing_iter.specs.Rows.{headOf}
 use Rattle.indexing.specs.Upto.{one, countTo, anyTo, listTo}
 use Rattle.indexing.specs.Lines.{modeOf}
 use Rattle.indexing.specs.Build.{maskedAt}

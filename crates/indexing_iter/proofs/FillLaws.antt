@@ -19,8 +19,9 @@ use Rattle.indexing_iter.specs.declared.InstructionArg.the-variants.{Arg
 use Rattle.indexing_iter.specs.declared.Checked.{Checked}
 use Rattle.indexing_iter.specs.declared.Checked.the-variants.{Passed}
 use Rattle.indexing_iter.specs.Classes.{instructionArg}
-use Rattle.indexing_iter.specs.Keys.{headOf, bitsOf, keyIn, keyStep, keysIn}
-use Rattle.indexing_iter.specs.Clauses.{clauseAt, keysOf, known}
+use Rattle.indexing_iter.specs.Keys.{bitsOf, keyIn, keyStep}
+use Rattle.indexing_iter.specs.Clauses.{clauseAt, known}
+use Rattle.indexing_iter.specs.Rows.{headOf, keysIn, keysOf}
 use Rattle.indexing_iter.specs.Checks.{checkRecords, checkCode, hasBody, isBody}
 use Rattle.indexing_iter.proofs.KeyLaws.{length-keys, keys-at, StepOk, records-step, ClauseOk, clause-ok, clause-on, check-records-append}
 

@@ -19,8 +19,9 @@ use Rattle.indexing_iter.specs.declared.InstructionArg.the-variants.{Arg
 use Rattle.indexing_iter.specs.declared.Checked.{Checked}
 use Rattle.indexing_iter.specs.declared.Checked.the-variants.{Passed, Refused}
 use Rattle.indexing_iter.specs.Classes.{instructionArg, argOfClass, keyOfClass, isKeyed, isShallowTemp}
-use Rattle.indexing_iter.specs.Keys.{keyIn, keyStep, keysIn}
-use Rattle.indexing_iter.specs.Clauses.{endOf, clausesOf, clauseAt, keyOf, keysOf, known}
+use Rattle.indexing_iter.specs.Keys.{keyIn, keyStep}
+use Rattle.indexing_iter.specs.Clauses.{endOf, clausesOf, clauseAt, keyOf, known}
+use Rattle.indexing_iter.specs.Rows.{keysIn, keysOf}
 use Rattle.indexing_iter.specs.Checks.{orElse, risingBelow, isBody, hasBody, keyFieldsOk, recordBad, registerBad, registerStep, checkRecords, checkClause, checkClauses, checkCode}
 use Rattle.indexing_iter.proofs.CheckLaws.{rising-tail, rising-head, end-below, passed-both, code-arity, code-size, code-starts, code-rising, code-clauses}
 use Rattle.indexing_iter.proofs.SameKeys.{and-left, and-right, or-left, or-right, KeyInRange}

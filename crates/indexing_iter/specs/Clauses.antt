@@ -8,7 +8,7 @@ use lib.ListN.{length}
 use lib.Seq.{slice}
 use Rattle.records.specs.declared.Rec.{Rec}
 use Rattle.indexing_iter.specs.declared.OptArgIndexKey.{OptArgIndexKey}
-use Rattle.indexing_iter.specs.Keys.{keyIn, keysIn}
+use Rattle.indexing_iter.specs.Keys.{keyIn}
 
 -- section 2: a clause ends at the next start, or at the code's end n
 abbrev pub endOf : ℕ → List ℕ → ℕ
@@ -32,10 +32,6 @@ clauseAt rs (s ∷ ss) o = cond (eqb (suc s) o) (slice s (endOf (length rs) ss) 
 -- the key at argument a of the clause at offset o: all that the layers above know of code
 unfoldable pub keyOf : (ℕ → ℕ) → List Rec → List ℕ → ℕ → ℕ → OptArgIndexKey
 keyOf cls rs starts o a = keyIn cls (clauseAt rs starts o) a
-
--- the keys of the clause at offset o at the arguments 1 to arity
-abbrev pub keysOf : (ℕ → ℕ) → List Rec → List ℕ → ℕ → ℕ → List OptArgIndexKey
-keysOf cls rs starts o arity = keysIn cls (clauseAt rs starts o) arity 1
 
 -- an offset that some clause has
 unfoldable pub known : List ℕ → ℕ → Bool

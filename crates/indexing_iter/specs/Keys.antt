@@ -1,6 +1,6 @@
 -- Keys, and the keys that a clause's records give (document 01, section 2).
 -- Assumes nothing.
-use Prim.Native.Nat.{ℕ, zero, suc, _+_, _*_}
+use Prim.Native.Nat.{ℕ}
 use mathlib.Core.Bool.{Bool, true, false, cond, _&&_}
 use mathlib.Core.List.{List, [], _∷_}
 use lib.Dec.{eqb}
@@ -46,13 +46,9 @@ isOpen (Structure n f) = false
 isOpen ListKey = false
 
 -- section 2: two keys are equal if sort, arity and bits are. The group is told by the sort wherever a literal's sort
--- is 1 to 3 (proofs/KeyLaws, `same-by-sort`); with it the definition tells the four cases apart for every number
+-- is 1 to 3 (proofs/SameKeys, `same-by-sort`); with it the definition tells the four cases apart for every number
 abbrev pub same : OptArgIndexKey → OptArgIndexKey → Bool
 same k l = eqb (groupOf k) (groupOf l) && (eqb (sortOf k) (sortOf l) && (eqb (arityOf k) (arityOf l) && eqb (bitsOf k) (bitsOf l)))
-
--- a key as two numbers: its sort and arity in one, and its bits
-abbrev pub headOf : OptArgIndexKey → ℕ
-headOf k = sortOf k * 65536 + arityOf k
 
 -- section 2: the key at argument j by what one record says and by what the records after it give; reading stops at a body record
 abbrev pub keyStep : InstructionArg → ℕ → OptArgIndexKey → OptArgIndexKey
@@ -65,8 +61,3 @@ keyStep (ArgedHead reg key) j rest = cond (eqb reg j) key rest
 unfoldable pub keyIn : (ℕ → ℕ) → List Rec → ℕ → OptArgIndexKey
 keyIn cls [] j = None
 keyIn cls (r ∷ rs) j = let rest = keyIn cls rs j in keyStep (instructionArg cls r) j rest
-
--- the keys at n arguments from a on
-unfoldable pub keysIn : (ℕ → ℕ) → List Rec → ℕ → ℕ → List OptArgIndexKey
-keysIn cls rs zero a = []
-keysIn cls rs (suc n) a = keyIn cls rs a ∷ keysIn cls rs n (suc a)

@@ -1,4 +1,5 @@
 pub mod Classes
 pub mod Keys
 pub mod Clauses
+pub mod Rows
 pub mod Checks

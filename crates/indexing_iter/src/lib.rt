@@ -13,8 +13,9 @@ ghost use lib.Seq.{slice};
 ghost use mathlib.Core.List.{map, _++_};
 ghost use Rattle.records.specs.Records.{recordsOf, none};
 ghost use Rattle.indexing_iter.specs.Classes.{classOf, keyOfClass, argOfClass, instructionArg};
-ghost use Rattle.indexing_iter.specs.Keys.{sortOf, arityOf, bitsOf, groupOf, isOpen, same, headOf, keyIn};
-ghost use Rattle.indexing_iter.specs.Clauses.{keyOf, keysOf, known};
+ghost use Rattle.indexing_iter.specs.Keys.{sortOf, arityOf, bitsOf, groupOf, isOpen, same, keyIn};
+ghost use Rattle.indexing_iter.specs.Clauses.{keyOf, known};
+ghost use Rattle.indexing_iter.specs.Rows.{headOf, keysOf};
 ghost use Rattle.indexing_iter.specs.Checks.{checkCode};
 
 // What indexing knows of one argument of a clause, or of a call.

@@ -91,9 +91,6 @@ module _ {m : ℕ} {idx : Index} {rs : List Rec} (is : rs ≡ records m 0 idx) w
           length-append (fore m idx l (at .passed)) (left m idx l ts),
         )
 
-    pub at-before : take p rs ≡ fore m idx l (at .passed)
-    at-before = ap₂ take at-place (is ∙ whole m idx l (at .passed) ts (at .line) (at .tables)) ∙ take-append-seam (fore m idx l (at .passed)) (left m idx l ts)
-
 module _ {m : ℕ} {idx : Index} {rs : List Rec} {l : ℕ} {t : Table} {ts : List Table} {p : ℕ} (at : At m idx rs l (t ∷ ts) p) where
   -- the first table left fits its records if all tables do
   pub at-fits : All FitLine idx → FitTable t
@@ -144,17 +141,3 @@ distance n (some c) = go (c .to)
     go : Ptr → ℕ
     go (ext o) = n
     go (int d) = d
-
--- where a switch's internal pointer leads, there is a line
-leads-on : (M : ℕ) (idx : Index) (l b h d : ℕ) {x y : Option (Chosen Ptr)} → Ways (Beyond M idx l b) x y → x ≡ some (record { how = h; to = int d })
-    → (1 ≤ d) × (l + d < length idx)
-unfolding distance
-leads-on M idx l b h d ways-none e = absurd (omega (arith, ap (distance (suc d)) e))
-leads-on M idx l b h d (ways-some beyond-ext) e = absurd (omega (arith, ap (distance (suc d)) e))
-leads-on M idx l b h d (ways-some (beyond-int u v r)) e = let n = ap (distance 0) e in (omega (arith, u, n), omega (arith, v, n))
-
-pub at-leads : (P : Program) (key : Key) {m : ℕ} {idx : Index} {rs : List Rec} {l a h d : ℕ} {es : List (Entry Ptr)} {ts : List Table} {p : ℕ}
-    → At m idx rs l (switch a es ∷ ts) p → Orderly P idx → choose P key es ≡ some (record { how = h; to = int d }) → (1 ≤ d) × (l + d < length idx)
-at-leads P key {idx = idx} {l = l} {a = a} {h = h} {d = d} {es = es} at o e =
-    leads-on (P .arity) idx l a h d
-    (choose-linked (Beyond (P .arity) idx l a) P key (o .leads .within l a a es (at .line) (at-find at (P .arity) (o .rises l (at .line))))) e

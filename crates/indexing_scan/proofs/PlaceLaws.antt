@@ -131,18 +131,6 @@ lands m n (suc d) (x ∷ xs) h =
           ∙ ap (λ (j : ℕ). drop j (ts ++ (cs ++ zs))) e ∙ drop-two ts cs zs k ∙ rw i at (w .1),
     )
 
--- it lies further on
-pub line-beyond : (rs : List Rec) (p d : ℕ) → 1 ≤ d → p < length rs → p < behindLine rs p d
-unfolding behindLine throughLine
-line-beyond rs p d h k =
-    let n : d ≡ suc (d - 1) = omega arith in
-    let u : throughLine d (drop p rs) ≡ throughLine (suc (d - 1)) (getD rs p none ∷ drop (suc p) rs) = ap₂ throughLine n (drop-cons rs p none k) in
-    omega (arith, u, go (eqb (getD rs p none .kind) 1))
-  where
-    go : (b : Bool) → 1 ≤ cond b (throughLine (d - 1) (drop (suc p) rs) + 1) (throughLine (suc (d - 1)) (drop (suc p) rs) + 1)
-    go true = omega arith
-    go false = omega arith
-
 -- ---- parts of lists
 
 -- a part, cut out from its start
@@ -281,16 +269,6 @@ module _ {m : ℕ} {idx : Index} {rs : List Rec} {l : ℕ} where
         let cs : List Rec = map choiceRec (lineAt idx l .choices) in
         part-is rs q k (at .within) ∙ ap₂ take (e ∙ offsets-run) (at .rest)
         ∙ take-at cs (records m (suc l) (drop (suc l) idx)) (length (lineAt idx l .choices)) (length-map (lineAt idx l .choices) choiceRec)
-
-    -- 5: the kind there is that of no table: an offset's, a line's, or the end is there
-    pub at-end : (q ≡ length rs) ⊎ ((getD rs q none .kind ≡ 6) ⊎ (getD rs q none .kind ≡ 1))
-    at-end = go (lineAt idx l .choices) (drop (suc l) idx) (at .rest)
-      where
-        go : (cs : List Choice) (xs : Index) → drop q rs ≡ map choiceRec cs ++ records m (suc l) xs
-            → (q ≡ length rs) ⊎ ((getD rs q none .kind ≡ 6) ⊎ (getD rs q none .kind ≡ 1))
-        go (c ∷ cs) xs e = inr (inl (ap (λ (x : Rec). x .kind) (front-is rs q ∙ ap (λ (x : List Rec). getD x 0 none) e)))
-        go [] (x ∷ xs) e = inr (inr (ap (λ (x : Rec). x .kind) (front-is rs q ∙ ap (λ (x : List Rec). getD x 0 none) e)))
-        go [] [] e = inl (omega (arith, at .within, ap length e, length-drop q rs))
 
     pub at-none : isTable (getD rs q none .kind) ≡ false
     at-none = go (lineAt idx l .choices) (drop (suc l) idx) (at .rest)

@@ -64,9 +64,6 @@ pub witness-number : (c : Checked) (os : List ℕ) (w : Witnessed) → Witnesses
 witness-number Passed os w h = ap numberIn (h .0)
 witness-number (Refused n) os w h = ap numberIn h
 
-pub refused-offset : (n : ℕ) (os : List ℕ) (w : Witnessed) → Witnesses (Refused n) os w → offsetIn w ≡ 0
-refused-offset n os w h = ap offsetIn h
-
 -- ---- the offset of a clause
 
 pub clause-offset : (cls : ℕ → ℕ) (arity : ℕ) (code starts : List ℕ) (i : ℕ) → checkCode cls arity code starts ≡ Passed → i < length starts

@@ -187,9 +187,6 @@ module _ (P : Program) where
     quiet-table s l b u ts f e =
         settle-quiet P cap s l (argOf u) (Q (argOf u)) (rw (found (s .index) l b u ts f, e) (and-false (not (isOpen (Q (argOf u))))))
 
-    pub quiet-off : (idx : Index) (l a : ℕ) → settle P cap (record { storing = false; index = idx }) (line l) a (Q a) ≡ record { storing = false; index = idx }
-    quiet-off idx l a = refl
-
     -- an expansion that is due and fits: the walk is that of the expanded index, at the same table
     is-due : (idx : Index) (l b a : ℕ) (ts : List Table) → Left P idx (line l) b (onDemand a ∷ ts) → isOpen (Q a) ≡ false → due idx l a (Q a) ≡ true
     is-due idx l b a ts f e = rw (found idx l b (onDemand a) ts f, e) refl

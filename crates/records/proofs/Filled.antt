@@ -25,8 +25,3 @@ fill-more {A} {s} {l₀} {l} {i} x z F h e = record {
       ∙ ap₂ (λ (t : List A) (y : A). t ++ (y ∷ [])) (F .done) (sym e)
       ∙ sym (take-suc s i z h) ∙ ap (λ (k : ℕ). take k s) (sym (add-one i));
 }
-
-pub fill-end : {A : Type 0} {s l₀ l : List A} {i : ℕ} (n : ℕ) → Filled s l₀ l i → n ≡ length s → n ≤ i → take n l ≡ s
-fill-end {A} {s} {l₀} {l} {i} n F e h =
-    let f : n ≡ i = omega (arith, F .within) in
-    ap (λ (k : ℕ). take k l) f ∙ F .done ∙ ap (λ (k : ℕ). take k s) (sym f ∙ e) ∙ take-length s

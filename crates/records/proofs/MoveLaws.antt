@@ -66,13 +66,6 @@ module _ {ℓ} {A : Type ℓ} (l : List A) (p n : ℕ) (h : p < n) (k : n ≤ le
       let s : length (slice (p + 1) n l) ≡ n - (p + 1) = length-slice (p + 1) n l k in
       simp length-append (omega arith)
 
-  -- a change that splices leaves the changed index, and after it what was there
-  pub spliced-front : spliced l p n block more ≡ front ++ drop (length front) l
-  spliced-front =
-      let d : List A = drop (n + length block + length more - 1) l in
-      let e : take p l ++ (block ++ (slice (p + 1) n l ++ (more ++ d))) ≡ front ++ d = simp append-assoc in
-      e ∙ ap (λ (x : ℕ). front ++ drop x l) (sym length-front)
-
 module _ {ℓ} {A : Type ℓ} (l : List A) (p n k : ℕ) (pn : p < n) (room : n + k ≤ length l) where
   -- a block written into the gap that was opened for it
   pub gap-written : (block : List A) → length block ≡ k + 1

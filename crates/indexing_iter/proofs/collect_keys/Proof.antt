@@ -7,7 +7,8 @@ use lib.ListN.{length, getD, set, length-set}
 use lib.Seq.{slice}
 use borrow.Author.Needs.{needs}
 use Rattle.records.specs.Records.{recordsOf, none}
-use Rattle.indexing_iter.specs.Keys.{headOf, bitsOf}
+use Rattle.indexing_iter.specs.Keys.{bitsOf}
+use Rattle.indexing_iter.specs.Rows.{headOf}
 use Rattle.indexing_iter.proofs.Table.{classIn}
 use Rattle.indexing_iter.proofs.Parts.{slice-step, slice-done}
 use Rattle.indexing_iter.proofs.KeyLaws.{known-within}

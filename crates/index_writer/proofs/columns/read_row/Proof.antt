@@ -1,7 +1,8 @@
 -- The keys of one clause, read into two small lists. Assumes nothing.
 use Rattle.records.specs.Records.{recordsOf}
 use Rattle.indexing_iter.specs.Classes.{classOf}
-use Rattle.indexing_iter.specs.Keys.{headOf, bitsOf}
+use Rattle.indexing_iter.specs.Keys.{bitsOf}
+use Rattle.indexing_iter.specs.Rows.{headOf}
 use Rattle.indexing_iter.proofs.KeyLaws.{code-ok}
 use Rattle.index_writer.proofs.ColumnLaws.{row-at, row-open}
 use mathlib.Core.Path.{_∙_}
