@@ -3,17 +3,17 @@
 -- Assumes nothing.
 use Prim.Native.Nat.{ℕ, suc, _≤_, _<_}
 use mathlib.Core.Path.{_≡_}
-use mathlib.Core.Bool.{Bool, true, false, cond}
-use mathlib.Core.List.{List, [], _∷_, map, Sublistᴰ, List·Memᴰ}
+use mathlib.Core.Bool.{true, cond}
+use mathlib.Core.List.{List, [], _∷_, Sublistᴰ, List·Memᴰ}
 use lib.Dec.{eqb}
 use lib.ListN.{length, take, getD}
 use Rattle.records.specs.Records.{recordsOf}
 use Rattle.indexing_iter.specs.declared.Settings.{Settings}
 use Rattle.indexing_iter.specs.Clauses.{offsetsOf}
 use Rattle.indexing.specs.Lists.{keep}
-use Rattle.indexing.specs.Lines.{Index, size}
+use Rattle.indexing.specs.Lines.{size}
 use Rattle.indexing.specs.Build.{Program, programOf}
-use Rattle.indexing.specs.Builder.{Built, buildCall, indexOf, capacityOf, stored}
+use Rattle.indexing.specs.Builder.{buildCall, indexOf, stored}
 use Rattle.indexing_scan.specs.Agree.{agree}
 use Rattle.indexing_scan.specs.Walk.{Step, Result, walk}
 use Rattle.indexing_scan.specs.Calls.{Walked, caseNumber, callOf, resultOf, walkCall}

@@ -1,11 +1,11 @@
 -- The worked show of document 01: its listing and its ten rows as one table, computed from the definitions of the public calls, bytes in, outcome out.
 -- Assumes nothing.
-use Prim.Native.Nat.{ℕ, zero, suc, _+_, _*_}
+use Prim.Native.Nat.{ℕ, _*_}
 use mathlib.Core.Bool.{Bool, true, false, _&&_}
-use mathlib.Core.List.{List, [], _∷_, _++_}
+use mathlib.Core.List.{List, [], _∷_}
 use mathlib.Core.Option.{Option, none, some}
 use lib.Dec.{eqb}
-use lib.ListN.{length, take, replicate}
+use lib.ListN.{take, replicate}
 use Rattle.records.specs.declared.Rec.{Rec}
 use Rattle.records.specs.Records.{rec, recordsOf, encode}
 use Rattle.indexing_iter.specs.declared.Settings.{Settings}

@@ -5,7 +5,7 @@ use mathlib.Core.Path.{_≡_, refl, sym, ap, ap₂, _∙_}
 use mathlib.Core.Bool.{Bool, true, false, cond, _||_}
 use mathlib.Core.List.{List, [], _∷_, _++_, map, append-nil, append-assoc}
 use mathlib.Core.Option.{Option, none, some}
-use Prim.Native.Nat.{ℕ, zero, suc, _+_, _-_, _*_, _/_, _%_, _^_, _≤_, _<_}
+use Prim.Native.Nat.{ℕ, zero, suc, _+_, _-_, _*_, _≤_, _<_}
 use native.Mathlib.Decide.{decLe}
 use native.Mathlib.Omega.{arith}
 use lib.Dec.{eqb, ltb, lt→ltb}
@@ -15,14 +15,13 @@ use Rattle.records.specs.declared.Rec.{Rec}
 use Rattle.records.specs.Records.{rec}
 use Rattle.indexing_iter.specs.declared.OptArgIndexKey.{OptArgIndexKey as Key}
 use Rattle.indexing_iter.specs.declared.Settings.{Settings}
-use Rattle.indexing_iter.specs.Clauses.{keyOf}
 use Rattle.indexing_iter.specs.Keys.{isOpen}
 use Rattle.indexing.specs.Upto.{one, countTo, anyTo, listTo}
 use Rattle.indexing.specs.Columns.{openRow, opensTo, member, openMember, deadClauses, tableAt, tablesAt}
 use Rattle.indexing.specs.Expanding.{opensOf}
 use Rattle.indexing.specs.Lists.{add, keep}
 use Rattle.indexing.specs.Lines.{Table, dead, Choice, offs, deadRec, tableRecs, tablesRecs}
-use Rattle.indexing.specs.Build.{Program, programBy, maskedAt, consOpt, openAt, newTable, laterTable, laterTables}
+use Rattle.indexing.specs.Build.{programBy, maskedAt, consOpt, openAt, newTable, laterTable, laterTables}
 use Rattle.indexing.proofs.BridgeLists.{list-cong, any-cong, length-each, getD-each}
 use Rattle.indexing.proofs.Expand.{add-offs}
 use Rattle.indexing.proofs.Tests.{T-true}

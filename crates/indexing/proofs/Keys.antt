@@ -1,7 +1,7 @@
 -- The groups of a switch (document 01, section 3); the laws of equal keys are those of indexing_iter.
 -- Assumes nothing.
 use mathlib.Core.Path.{_≡_, refl}
-use mathlib.Core.Bool.{true, false}
+use mathlib.Core.Bool.{false}
 use Rattle.indexing_iter.specs.Keys.{groupOf, isOpen}
 use Rattle.indexing_iter.specs.declared.OptArgIndexKey.{OptArgIndexKey as Key}
 use Rattle.indexing_iter.specs.declared.OptArgIndexKey.the-variants.{None, Literal, Structure, List as ListKey}

@@ -1,7 +1,7 @@
 -- The builder's call: result and every byte of the index buffer, for every input (document 01, sections 3 and "What each call gives back").
 -- Assumes nothing.
 use Prim.Native.Nat.{ℕ, _+_, _*_, _/_, min}
-use mathlib.Core.Bool.{Bool, true, false, cond}
+use mathlib.Core.Bool.{Bool, cond}
 use mathlib.Core.List.{List, _++_}
 use lib.Dec.{ltb}
 use lib.ListN.{length, drop}

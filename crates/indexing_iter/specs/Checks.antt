@@ -1,6 +1,6 @@
 -- Refusals 1 to 8 (document 01, "What each call gives back"): the first number that applies.
 -- Assumes nothing.
-use Prim.Native.Nat.{ℕ, zero, suc, _%_, _/_}
+use Prim.Native.Nat.{ℕ, _%_, _/_}
 use mathlib.Core.Bool.{Bool, true, false, cond, not, _&&_, _||_}
 use mathlib.Core.List.{List, [], _∷_}
 use lib.Dec.{eqb, leb, ltb}

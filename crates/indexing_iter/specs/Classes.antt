@@ -1,8 +1,8 @@
 -- Opcode classes, and what a code record says of an argument (document 01, section 1).
 -- Every definition that reads code takes the class function as a parameter; `classOf` is document 01's.
 -- Assumes nothing.
-use Prim.Native.Nat.{ℕ, _%_, _/_}
-use mathlib.Core.Bool.{Bool, cond, not, _&&_}
+use Prim.Native.Nat.{ℕ, _%_}
+use mathlib.Core.Bool.{Bool, cond, _&&_}
 use lib.Dec.{eqb, leb}
 use Rattle.records.specs.declared.Rec.{Rec}
 use Rattle.indexing_iter.specs.declared.OptArgIndexKey.{OptArgIndexKey}

@@ -10,7 +10,7 @@ ghost use lib.Seq.{slice};
 ghost use Rattle.records.specs.Records.{recordsOf};
 ghost use Rattle.indexing_iter.specs.Classes.{classOf};
 ghost use Rattle.indexing_iter.specs.Clauses.{endOf, clausesOf};
-ghost use Rattle.indexing_iter.specs.Checks.{numberOf, checkArity, checkChosen, checkSize, risingBelow, checkStarts, isBody, hasBody, keyFieldsOk, recordBad, registerBad, checkRecords, checkClause, checkClauses, openSomewhere, checkClausesOf, checkCode, checkBuild};
+ghost use Rattle.indexing_iter.specs.Checks.{numberOf, checkArity, checkChosen, checkSize, risingBelow, checkStarts, isBody, hasBody, keyFieldsOk, recordBad, registerBad, checkClause, checkClauses, openSomewhere, checkClausesOf, checkCode, checkBuild};
 
 // The number of a check's answer: 0 where it passed.
 pub fn number_of(a: Checked) -> u32

@@ -2,7 +2,7 @@
 -- They pin the definitions: an edit of Calls or Agree that changes a field, a refusal, a byte that is left or an agreement makes `called` false.
 -- Assumes nothing.
 use Prim.Native.Nat.{ℕ}
-use mathlib.Core.Bool.{Bool, true, false, not, _&&_}
+use mathlib.Core.Bool.{Bool, not, _&&_}
 use mathlib.Core.List.{List, [], _∷_, _++_}
 use lib.Dec.{T, eqb}
 use lib.ListN.{length, take}

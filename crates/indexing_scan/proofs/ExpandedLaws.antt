@@ -1,27 +1,24 @@
 -- The place of a table in the records, and what is left as it was by an expansion there; the place that a pointer leads to is further on.
 -- Assumes nothing.
-use mathlib.Core.Path.{_≡_, refl, sym, ap, ap₂, _∙_, subst}
+use mathlib.Core.Path.{_≡_, refl, sym, ap, _∙_, subst}
 use mathlib.Core.List.{List, [], _∷_, _++_, append-assoc}
-use mathlib.Core.Option.{Option, none as nothing, some}
+use mathlib.Core.Option.{some}
 use Prim.Native.Nat.{ℕ, suc, _+_, _≤_, _<_}
 use native.Mathlib.Omega.{arith}
 use lib.ListN.{length, take, drop, set, length-set, length-append}
-use lib.Seq.{length-take-le, take-append-le, take-set-le, drop-append-seam, take-append-seam, split-at}
+use lib.Seq.{length-take-le, take-append-le, take-set-le, drop-append-seam, split-at}
 use Rattle.records.specs.declared.Rec.{Rec}
 use Rattle.indexing.proofs.Lists.{All, all-in}
 use Rattle.indexing.proofs.Expand.{opens, outcome, grown, expand-is, length-expand, at-line as line-expanded}
-use Rattle.indexing.proofs.Order.{Args, Beyond, beyond-ext, beyond-int, Orderly}
+use Rattle.indexing.proofs.Order.{Args}
 use Rattle.indexing.proofs.Records.{tables-append, records-append, before}
 use Rattle.indexing.proofs.Reading.{FitTable, FitLine}
 use Rattle.indexing.proofs.Tables.{front}
 use Rattle.indexing.proofs.Tests.{eqb-same, eqb-other}
 use Rattle.indexing.specs.Build.{Program}
 use Rattle.indexing.specs.Expand.{added, expand}
-use Rattle.indexing.specs.Lines.{Ptr, ext, int, Entry, Table, switch, onDemand, argOf, Line, Index, noLine, lineAt, find, swap}
+use Rattle.indexing.specs.Lines.{Table, onDemand, argOf, Line, Index, noLine, lineAt, find, swap}
 use Rattle.indexing.specs.Lines.{tablesRecs, lineRec, records}
-use Rattle.indexing_iter.specs.declared.OptArgIndexKey.{OptArgIndexKey as Key}
-use Rattle.indexing_scan.proofs.Choose.{Ways, ways-none, ways-some, choose-linked}
-use Rattle.indexing_scan.specs.Walk.{Chosen, choose}
 use Rattle.indexing_scan.specs.Places.{At}
 use Rattle.indexing_scan.proofs.PlaceLaws.{left, left-length}
 
@@ -132,12 +129,3 @@ at-expanded P {m} {idx} {rs} {rs′} {l} {a} {ts} {p} at rises is is′ =
     ap (λ (x : Index). length (records m 0 x ++ (lineRec m l ∷ tablesRecs us))) (take-expand P idx l a (at .line)) ∙ sym (at-place is at) in
     subst (At m (expand P idx l a) rs′ l (outcome P idx l a ∷ ts)) n
     (at-make is′ us (outcome P idx l a ∷ ts) (omega (arith, at .line, length-expand P idx l a)) e)
-
--- the distance of what was chosen, and more than any where it has none
-distance : ℕ → Option (Chosen Ptr) → ℕ
-distance n nothing = n
-distance n (some c) = go (c .to)
-  where
-    go : Ptr → ℕ
-    go (ext o) = n
-    go (int d) = d

@@ -2,8 +2,7 @@
 -- that the records are those of.
 -- Assumes nothing.
 use mathlib.Core.Path.{_≡_, refl, sym, ap, ap₂, _∙_, subst}
-use mathlib.Core.Logic.{_⊎_, inl, inr}
-use mathlib.Core.Bool.{Bool, true, false, cond, not, _||_}
+use mathlib.Core.Bool.{Bool, false, not, _||_}
 use mathlib.Core.List.{List, [], _∷_, _++_, map, append-assoc, append-nil}
 use Prim.Native.Nat.{ℕ, zero, suc, _+_, _-_, _≤_, _<_}
 use native.Mathlib.Nat.{add-zero, zero-add}
@@ -11,7 +10,7 @@ use native.Mathlib.Numerals.{add-one}
 use native.Mathlib.Omega.{arith}
 use lib.Dec.{eqb}
 use lib.ListN.{length, getD, take, drop, length-append, length-drop, length-map}
-use lib.Seq.{slice, length-take-le, take-take, take-add, take-at, drop-at, drop-cons, drop-drop, drop-append-add, drop-append-seam, take-append-seam, getD-drop}
+use lib.Seq.{slice, length-take-le, take-take, take-add, take-at, drop-at, drop-drop, drop-append-add, drop-append-seam, take-append-seam, getD-drop}
 use Rattle.records.specs.declared.Rec.{Rec}
 use Rattle.records.specs.Records.{none}
 use Rattle.indexing.proofs.Lists.{All, all-append}

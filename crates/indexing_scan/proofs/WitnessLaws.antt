@@ -20,7 +20,7 @@ use Rattle.indexing_scan.specs.declared.witness.Witnessed.{Witnessed}
 use Rattle.indexing_scan.specs.declared.witness.Witnessed.the-variants.{Found, Refused as RefusedBy}
 use Rattle.indexing_scan.specs.Agree.{Call, agreeAt, agreeFrom}
 use Rattle.indexing_scan.specs.Calls.{checkCall, witnessChecks, agreeing, isWitness}
-use Rattle.indexing_scan.specs.Witness.{numberIn, offsetIn, Witnesses, firstOf}
+use Rattle.indexing_scan.specs.Witness.{numberIn, Witnesses, firstOf}
 use Rattle.indexing_scan.proofs.CallLaws.{rest-step}
 
 -- ---- a clause, argument by argument

@@ -1,20 +1,19 @@
 -- The walk's call and the witness: results and every byte of every lent buffer, for every input (document 01, section 5 and "What each call gives back").
 -- Assumes nothing.
-use Prim.Native.Nat.{ℕ, zero, suc, _+_, _-_, _*_, _/_}
-use mathlib.Core.Bool.{Bool, true, false, cond, not, _&&_}
+use Prim.Native.Nat.{ℕ, _+_, _-_, _*_}
+use mathlib.Core.Bool.{Bool, cond, not, _&&_}
 use mathlib.Core.List.{List, [], _∷_, _++_}
 use lib.Dec.{eqb, leb, ltb}
 use lib.ListN.{length, getD, take, drop}
 use Rattle.records.specs.declared.Rec.{Rec}
 use Rattle.records.specs.Records.{recordsOf, none}
-use Rattle.indexing_iter.specs.declared.OptArgIndexKey.{OptArgIndexKey}
 use Rattle.indexing_iter.specs.declared.Settings.{Settings}
 use Rattle.indexing_iter.specs.declared.Checked.{Checked}
 use Rattle.indexing_iter.specs.declared.Checked.the-variants.{Passed, Refused}
 use Rattle.indexing_iter.specs.Clauses.{offsetsOf, known}
 use Rattle.indexing_iter.specs.Checks.{orElse, refuse, checkCode}
 use Rattle.indexing.specs.Lists.{keep, any, every}
-use Rattle.indexing.specs.Lines.{Index, size}
+use Rattle.indexing.specs.Lines.{size}
 use Rattle.indexing.specs.Reading.{keyFrom, parse}
 use Rattle.indexing.specs.Build.{programOf}
 use Rattle.indexing.specs.Builder.{capacityOf, stored}

@@ -4,7 +4,6 @@ use indexing_iter::OptArgIndexKey;
 use records::Rec;
 
 ghost use mathlib.Core.Path.{_≡_};
-ghost use mathlib.Core.Bool.{Bool, _&&_};
 ghost use Prim.Native.Nat.{_≤_};
 ghost use lib.ListN.{length};
 ghost use Rattle.records.specs.Records.{recordsOf};

@@ -3,8 +3,8 @@ use indexing_iter::OptArgIndexKey;
 use indexing_iter::Settings;
 
 ghost use mathlib.Core.Path.{_≡_};
-ghost use mathlib.Core.Bool.{Bool, true, false};
-ghost use mathlib.Core.List.{List, [], _++_};
+ghost use mathlib.Core.Bool.{true, false};
+ghost use mathlib.Core.List.{[], _++_};
 ghost use Prim.Native.Nat.{_+_, _-_, _≤_, _<_};
 ghost use lib.ListN.{length, take, drop};
 ghost use Rattle.records.specs.Records.{recordsOf};
@@ -14,9 +14,9 @@ ghost use Rattle.indexing_iter.specs.Clauses.{keyOf, known};
 ghost use Rattle.indexing_iter.specs.Checks.{checkCode};
 ghost use Rattle.indexing_iter.specs.declared.Checked.the-variants.{Passed};
 ghost use Rattle.indexing.specs.Lists.{every};
-ghost use Rattle.indexing.specs.Build.{programOf, openAt, virtual, lone};
+ghost use Rattle.indexing.specs.Build.{programOf, openAt, virtual};
 ghost use Rattle.indexing_scan.specs.Calls.{checkCall, callOf};
-ghost use Rattle.indexing_scan.specs.Walk.{demand, move, answerFrom, followNew, choose, enter, unstored};
+ghost use Rattle.indexing_scan.specs.Walk.{demand, move, answerFrom, followNew, choose, unstored};
 ghost use Rattle.indexing_scan.specs.Unstored.{moveOf, Held, anyOpen, alike, likeTo, allSame, enteredBy, emptyBy, finishedBy};
 
 // What is done at an argument. The first number is what was done at the table: 1 unbound, 2 dead, 4 the only entry of

@@ -1,7 +1,6 @@
 -- From what the libraries below answer to the numbers in the lent array. Assumes nothing.
-use mathlib.Core.Path.{_≡_, refl, sym, ap, _∙_}
+use mathlib.Core.Path.{_≡_, refl, ap, _∙_}
 use Prim.Native.Nat.{ℕ}
-use mathlib.Core.Bool.{true}
 use mathlib.Core.List.{List, [], _∷_}
 use Rattle.indexing_iter.specs.declared.Checked.{Checked}
 use Rattle.indexing_iter.specs.declared.Checked.the-variants.{Passed, Refused}
@@ -14,7 +13,7 @@ use Rattle.indexing_walk.specs.declared.WalkAnswer.{WalkAnswer}
 use Rattle.indexing_walk.specs.declared.WalkAnswer.the-variants.{Answered, Refused as RefusedWalk}
 use Rattle.indexing_walk.specs.Answers.{walkedOf}
 use Rattle.indexing_scan.specs.declared.witness.Witnessed.{Witnessed}
-use Rattle.indexing_scan.specs.Calls.{Walked, isWitness}
+use Rattle.indexing_scan.specs.Calls.{Walked}
 use Rattle.indexing_scan.specs.Witness.{numberIn, offsetIn, Witnesses}
 use Rattle.podrulka.specs.Face.{laid, builtNumbers, walkedNumbers, Found}
 

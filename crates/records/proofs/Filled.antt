@@ -5,7 +5,7 @@ use native.Mathlib.Numerals.{add-one}
 use native.Mathlib.Omega.{arith}
 use mathlib.Core.List.{List, [], _∷_, _++_}
 use lib.ListN.{length, getD, take, set, length-set}
-use lib.Seq.{take-suc, take-suc-set, take-length}
+use lib.Seq.{take-suc, take-suc-set}
 
 pub record Filled {A : Type 0} (s l₀ l : List A) (i : ℕ) : Type 0 where
   pub within : i ≤ length s

@@ -5,7 +5,7 @@ use native.Mathlib.Nat.{suc-ne-zero}
 use native.Mathlib.Omega.{arith}
 use mathlib.Core.List.{List, [], _∷_, _++_, append-assoc}
 use lib.ListN.{length, getD, take, drop, length-drop, take-append-drop, drop-of-length-le}
-use lib.Seq.{length-take-le, drop-cons, getD-drop, drop-append-le, take-all}
+use lib.Seq.{length-take-le, drop-cons, getD-drop, take-all}
 use Rattle.records.specs.Bytes.{le16, le32, le64, bytes16, bytes32, bytes64}
 use Rattle.records.specs.declared.Rec.{Rec}
 use Rattle.records.specs.Records.{decode, encodeRec, encode, recs, recordsOf, oddOf, Wrote}

@@ -1,10 +1,9 @@
 -- Computed examples of plans, calls, index and code of an input. They pin the definitions: an edit of Plan or Run that reads another field, takes
 -- a missing record or cuts elsewhere makes `planned` or `cut` false. Assumes nothing.
 use Prim.Native.Nat.{ℕ}
-use mathlib.Core.Bool.{Bool, true, false, cond, _&&_}
+use mathlib.Core.Bool.{Bool, cond, _&&_}
 use mathlib.Core.List.{List, [], _∷_, _++_}
 use lib.Dec.{T, eqb}
-use lib.ListN.{length, take}
 use Rattle.records.specs.declared.Rec.{Rec}
 use Rattle.records.specs.Records.{rec, decode, encodeRec, encode, recs, recordsOf}
 use Rattle.indexing.proofs.Sample.{alike, all}

@@ -6,7 +6,7 @@ use native.Mathlib.Omega.{arith}
 use native.Mathlib.Decide.{decLe}
 use mathlib.Core.List.{List, [], _∷_, _++_}
 use lib.ListN.{length, getD, take, drop, replicate, length-append, length-take, length-drop, length-replicate, drop-of-length-le}
-use lib.Seq.{take-all, take-nil}
+use lib.Seq.{take-all}
 use Rattle.walk_inputs.specs.declared.Plan.{Plan}
 use Rattle.walk_inputs.specs.Plan.{planOf, stepOf, partOf}
 use Rattle.walk_inputs.specs.Run.{callPart}

@@ -1,7 +1,6 @@
 -- The builder is handed no starts and one byte of code. Assumes nothing.
 use mathlib.Core.Path.{refl, sym, _∙_}
 use native.Mathlib.Omega.{arith}
-use lib.ListN.{length}
 use lib.Seq.{length-take-le}
 use Rattle.inputs.proofs.LinesLaws.{lines-long}
 use borrow.Author.Needs.{needs}

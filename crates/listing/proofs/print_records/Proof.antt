@@ -1,5 +1,4 @@
 -- Each part ends behind its beginning, and within the records. Assumes nothing.
-use mathlib.Core.Path.{_≡_}
 use Prim.Native.Nat.{_-_, _≤_}
 use borrow.Author.Needs.{needs}
 use Rattle.listing.proofs.print_records.Statement.{statement}

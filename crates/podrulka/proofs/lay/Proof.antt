@@ -1,6 +1,6 @@
 -- The first i values stand. Assumes nothing.
 use mathlib.Core.Path.{_≡_, refl, _∙_, ap}
-use Prim.Native.Nat.{ℕ, _-_, _≤_}
+use Prim.Native.Nat.{_-_, _≤_}
 use native.Mathlib.Omega.{arith}
 use lib.ListN.{length, set, getD, length-set}
 use Rattle.indexing_walk.proofs.OuterLaws.{copiedTo, copy-start, copy-more}

@@ -1,6 +1,5 @@
 -- The builder is handed the parts of an input. Assumes nothing.
-use mathlib.Core.Path.{_≡_, refl, _∙_}
-use lib.ListN.{length}
+use mathlib.Core.Path.{refl, _∙_}
 use Rattle.walk_inputs.proofs.PlanLaws.{plan-starts}
 use Rattle.walk_inputs.proofs.RunLaws.{build-as}
 use borrow.Author.Needs.{needs}

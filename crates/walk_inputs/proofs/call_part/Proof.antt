@@ -3,7 +3,7 @@ use mathlib.Core.Path.{ap, _∙_}
 use Prim.Native.Nat.{ℕ, _+_, _*_, min}
 use native.Mathlib.Omega.{arith}
 use Rattle.walk_inputs.specs.Plan.{partOf}
-use Rattle.walk_inputs.proofs.PlanLaws.{Small, plan-small}
+use Rattle.walk_inputs.proofs.PlanLaws.{plan-small}
 use Rattle.walk_inputs.proofs.PartLaws.{place-below, call-as, call-none}
 use borrow.Author.Needs.{needs}
 use Rattle.walk_inputs.proofs.call_part.Statement.{statement}

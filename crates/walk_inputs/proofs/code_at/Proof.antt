@@ -1,6 +1,6 @@
 -- Where the code begins. Assumes nothing.
 use native.Mathlib.Omega.{arith}
-use Rattle.walk_inputs.proofs.PlanLaws.{Small, plan-small}
+use Rattle.walk_inputs.proofs.PlanLaws.{plan-small}
 use borrow.Author.Needs.{needs}
 use Rattle.walk_inputs.proofs.code_at.Statement.{statement}
 use Rattle.walk_inputs.proofs.code_at.Tie as tie

@@ -1,7 +1,7 @@
 -- The index is given, or built; out is cleared. Assumes nothing.
-use mathlib.Core.Path.{_≡_, ap, _∙_}
+use mathlib.Core.Path.{ap, _∙_}
 use Prim.Native.Nat.{ℕ}
-use lib.ListN.{length, replicate}
+use lib.ListN.{replicate}
 use Rattle.walk_inputs.specs.declared.First.{First}
 use Rattle.walk_inputs.specs.Run.{openedOf}
 use Rattle.walk_inputs.proofs.RunLaws.{open-given, open-built}

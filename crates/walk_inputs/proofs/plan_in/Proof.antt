@@ -1,7 +1,6 @@
 -- The plan, from the records 242 and 243 where they stand. Assumes nothing.
 use mathlib.Core.Path.{_∙_}
 use native.Mathlib.Omega.{arith}
-use lib.ListN.{length}
 use Rattle.records.specs.Records.{recordsOf}
 use Rattle.records.proofs.Laws.{length-recordsOf}
 use Rattle.inputs.proofs.StartLaws.{behind-most}

@@ -1,10 +1,10 @@
 -- The index that a run begins with. Assumes nothing.
-use mathlib.Core.Path.{_≡_, ap, _∙_}
+use mathlib.Core.Path.{ap, _∙_}
 use Prim.Native.Nat.{ℕ, _+_}
 use native.Mathlib.Omega.{arith}
 use lib.ListN.{length}
 use Rattle.walk_inputs.specs.Plan.{partOf}
-use Rattle.walk_inputs.proofs.PlanLaws.{Small, plan-small}
+use Rattle.walk_inputs.proofs.PlanLaws.{plan-small}
 use Rattle.walk_inputs.proofs.PartLaws.{part-length}
 use Rattle.walk_inputs.proofs.RunLaws.{start-as}
 use borrow.Author.Needs.{needs}

@@ -1,6 +1,5 @@
 -- The arity of the settings, or 1. Assumes nothing.
-use mathlib.Core.Path.{refl, ap, _∙_}
-use native.Mathlib.Omega.{arith}
+use mathlib.Core.Path.{refl}
 use borrow.Author.Tests.{eq-eqb, ne-eqb}
 use Rattle.inputs.proofs.LinesLaws.{settings-as}
 use Rattle.walk_inputs.specs.Plan.{stepOf}

@@ -3,7 +3,7 @@ use mathlib.Core.Path.{_∙_, ap}
 use Prim.Native.Nat.{_≤_}
 use native.Mathlib.Omega.{arith}
 use mathlib.Core.List.{[]}
-use lib.ListN.{length, drop, drop-of-length-le}
+use lib.ListN.{length, drop-of-length-le}
 use Rattle.listing.specs.Text.{decimal}
 use Rattle.walk_listing.proofs.TextLaws.{ended-parts}
 use borrow.Author.Needs.{needs}

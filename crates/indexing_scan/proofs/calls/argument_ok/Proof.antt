@@ -1,7 +1,6 @@
 use mathlib.Core.Path.{refl}
 use borrow.Author.Tests.{eq-eqb, ne-eqb, le-leb, lt-leb}
 use Rattle.indexing_scan.specs.Calls.{argumentOk}
-use borrow.Author.Needs.{needs}
 use Rattle.indexing_scan.proofs.calls.argument_ok.Statement.{statement}
 use Rattle.indexing_scan.proofs.calls.argument_ok.Tie as tie
 use Rattle.indexing_scan.proofs.calls.argument_ok.Reads as reads

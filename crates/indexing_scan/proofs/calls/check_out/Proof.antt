@@ -1,6 +1,5 @@
 use mathlib.Core.Path.{refl}
 use borrow.Author.Tests.{lt-ltb, le-ltb}
-use borrow.Author.Needs.{needs}
 use Rattle.indexing_scan.proofs.calls.check_out.Statement.{statement}
 use Rattle.indexing_scan.proofs.calls.check_out.Tie as tie
 use Rattle.indexing_scan.proofs.calls.check_out.Reads as reads

@@ -1,5 +1,4 @@
 use borrow.Author.Tests.{eq-eqb, ne-eqb}
-use borrow.Author.Needs.{needs}
 use Rattle.indexing_scan.proofs.calls.key_from.Statement.{statement}
 use Rattle.indexing_scan.proofs.calls.key_from.Tie as tie
 use Rattle.indexing_scan.proofs.calls.key_from.Reads as reads

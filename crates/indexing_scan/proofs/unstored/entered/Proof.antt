@@ -1,7 +1,6 @@
 use mathlib.Core.Path.{refl}
 use borrow.Author.Tests.{eq-eqb, ne-eqb}
 use Rattle.indexing_scan.specs.Unstored.{enteredBy}
-use borrow.Author.Needs.{needs}
 use Rattle.indexing_scan.proofs.unstored.entered.Statement.{statement}
 use Rattle.indexing_scan.proofs.unstored.entered.Tie as tie
 use Rattle.indexing_scan.proofs.unstored.entered.Reads as reads

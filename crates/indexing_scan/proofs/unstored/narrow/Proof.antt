@@ -1,6 +1,4 @@
-use mathlib.Core.Path.{_≡_, refl, sym, _∙_}
-use mathlib.Core.Bool.{cond}
-use mathlib.Core.List.{[]}
+use mathlib.Core.Path.{refl, sym, _∙_}
 use lib.ListN.{take}
 use lib.Seq.{length-take-le}
 use native.Mathlib.Omega.{arith}
@@ -10,9 +8,8 @@ use Rattle.indexing.specs.Build.{programOf}
 use Rattle.indexing_scan.specs.declared.unstored.Narrowed.the-variants.{NoTable, Passed}
 use Rattle.indexing_iter.proofs.CheckLaws.{code-arity}
 use Rattle.indexing_scan.specs.Unstored.{moveOf}
-use Rattle.indexing_scan.specs.Walk.{pass, move, unstored}
 use Rattle.indexing_scan.proofs.HeldLaws.{held-same}
-use Rattle.indexing_scan.proofs.UnstoredLaws.{Unmasked, move-masked, move-none, move-dead, move-unbound, move-switch}
+use Rattle.indexing_scan.proofs.UnstoredLaws.{Unmasked, move-masked, move-none, move-over, move-dead, move-unbound, move-switch}
 use borrow.Author.Needs.{needs}
 use Rattle.indexing_scan.proofs.unstored.narrow.Statement.{statement}
 use Rattle.indexing_scan.proofs.unstored.narrow.Tie as tie
@@ -28,13 +25,6 @@ unmasked : (c : tie.After-any-open)
     → let a = c .before .before .before .before .before .before .before .args in
       Unmasked (programOf classOf (a .settings) (recordsOf (a .code .now)) (a .starts .now)) (a .a) (take (a .m) (a .clauses .now)) (c .any-open .result)
 unmasked c = record { is = sym (c .before .before .before .masked .ensures) ∙ c .before .before .if1 .left; opens = c .any-open .ensures }
-
--- a table that some clause leaves open
-dead : (c : tie.After-is-open)
-    → let a = c .before .before .before .before .before .before .before .before .before .before .before .args in
-      cond (c .is-open .result) (pass 1) (pass 2)
-      ≡ move (programOf classOf (a .settings) (recordsOf (a .code .now)) (a .starts .now)) [] (unstored (take (a .m) (a .clauses .now))) (a .a) (a .q)
-dead c = move-dead (unmasked (c .before .before .before .before)) (c .before .before .before .before .before .before .before .before .before .before .before .args .q) (c .is-open .result) (c .is-open .ensures) (c .before .before .before .if2 .taken) (c .before .if3 .left)
 
 masked-requires : tie.Need-masked-requires
 masked-requires c κs =
@@ -78,7 +68,9 @@ returns-3 : tie.Need-returns-3
 returns-3 c =
     let s = c .before .before .before .before .before .before .before .before .before .before .before .before in
     let a = s .args in
-    (rw (c .if4 .taken) at (dead (c .before)), held-same (a .starts .now) (a .m) (a .clauses .now) (Passed 1) refl refl (s .pre .1 .0 .1))
+    let u = c .before .is-open in
+    (move-over (unmasked (c .before .before .before .before .before)) (a .q) (u .result) (u .ensures) (c .before .before .before .before .if2 .taken) (c .before .before .if3 .left) (c .if4 .taken),
+      held-same (a .starts .now) (a .m) (a .clauses .now) (Passed 1) refl refl (s .pre .1 .0 .1))
 
 same-length-3 : tie.Need-same-length-3
 same-length-3 c = search needs
@@ -87,7 +79,9 @@ returns-4 : tie.Need-returns-4
 returns-4 c =
     let s = c .before .before .before .before .before .before .before .before .before .before .before .before in
     let a = s .args in
-    (rw (c .if4 .left) at (dead (c .before)), held-same (a .starts .now) (a .m) (a .clauses .now) (Passed 2) refl refl (s .pre .1 .0 .1))
+    let u = c .before .is-open in
+    (move-dead (unmasked (c .before .before .before .before .before)) (a .q) (u .result) (u .ensures) (c .before .before .before .before .if2 .taken) (c .before .before .if3 .left) (c .if4 .left),
+      held-same (a .starts .now) (a .m) (a .clauses .now) (Passed 2) refl refl (s .pre .1 .0 .1))
 
 is-open-requires-2 : tie.Need-is-open-requires-2
 is-open-requires-2 c κs = search needs

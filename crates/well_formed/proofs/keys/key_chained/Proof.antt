@@ -1,12 +1,10 @@
 -- The entries up to the present one of the chain tell whether one has the key: those passed over are of other buckets. Assumes nothing.
 use mathlib.Core.Path.{_≡_, sym, _∙_}
-use Prim.Native.Nat.{_+_, _-_, _≤_}
+use Prim.Native.Nat.{_-_, _≤_}
 use native.Mathlib.Omega.{arith}
 use borrow.Author.Needs.{needs}
 use lib.ListN.{length, getD}
-use lib.Seq.{slice}
 use Rattle.records.specs.Records.{recordsOf, none}
-use Rattle.well_formed.specs.Pass.{among}
 use Rattle.well_formed.proofs.ChainLaws.{At, start, found, shorter, follow, followed}
 use Rattle.well_formed.proofs.keys.key_chained.Statement.{statement}
 use Rattle.well_formed.proofs.keys.key_chained.Tie as tie
