@@ -112,7 +112,7 @@ fn has_body(table: &[u8], code: &[u8], start: usize, end: usize) -> bool
 {
     let mut i = start;
     while i < end {
-        if is_body(crate::arg_in(table, code, i)) {
+        if is_body(crate::extract_index_arg(table, code, i)) {
             return true;
         }
         i += 1;

@@ -85,13 +85,6 @@ fn class_in(table: &[u8], op: u8) -> u8
     table[op as usize]
 }
 
-pub fn class_of(op: u8) -> u8
-    ensures { λ r. ⌜ r ≡ classOf op ⌝ }
-{
-    let table = classes();
-    table[op as usize]
-}
-
 // A key's sort: 1 atom, 2 integer, 3 float, 4 structure, 5 list, 0 none.
 pub fn sort_of(k: OptArgIndexKey) -> u16
     ensures { λ r. ⌜ r ≡ sortOf k ⌝ }
@@ -215,7 +208,7 @@ fn arg_of_class(class: u8, r: Rec) -> InstructionArg
 }
 
 // What the code record at place i says of an argument, by a table of classes.
-fn arg_in(table: &[u8], code: &[u8], i: usize) -> InstructionArg
+pub fn extract_index_arg(table: &[u8], code: &[u8], i: usize) -> InstructionArg
     requires { ⌜ (length (now table) ≡ 256) × (i < length (recordsOf (now code))) ⌝ }
     ensures { λ a. ⌜ a ≡ instructionArg (λ op. getD (now (table .entry)) op 0) (getD (recordsOf (now (code .entry))) i none) ⌝ }
 {
@@ -223,23 +216,14 @@ fn arg_in(table: &[u8], code: &[u8], i: usize) -> InstructionArg
     arg_of_class(class_in(table, r.kind), r)
 }
 
-// What the code record at place i says of an argument.
-pub fn extract_index_arg(code: &[u8], i: usize) -> InstructionArg
-    requires { ⌜ i < length (recordsOf (now code)) ⌝ }
-    ensures { λ a. ⌜ a ≡ instructionArg classOf (getD (recordsOf (now (code .entry))) i none) ⌝ }
-{
-    let r = records::get(code, i);
-    arg_of_class(class_of(r.kind), r)
-}
-
-// The key at argument j that the records from start up to end give.
-pub fn key_in(code: &[u8], start: usize, end: usize, j: u32) -> OptArgIndexKey
-    requires { ⌜ end ≤ length (recordsOf (now code)) ⌝ }
-    ensures { λ k. ⌜ k ≡ keyIn classOf (slice start end (recordsOf (now (code .entry)))) j ⌝ }
+// The key at argument j that the records from start up to end give, by a table of classes.
+fn key_by(table: &[u8], code: &[u8], start: usize, end: usize, j: u32) -> OptArgIndexKey
+    requires { ⌜ (length (now table) ≡ 256) × (end ≤ length (recordsOf (now code))) ⌝ }
+    ensures { λ k. ⌜ k ≡ keyIn (λ op. getD (now (table .entry)) op 0) (slice start end (recordsOf (now (code .entry)))) j ⌝ }
 {
     let mut i = start;
     while i < end {
-        let a = extract_index_arg(code, i);
+        let a = extract_index_arg(table, code, i);
         match a {
             InstructionArg::NonHead => {
                 return OptArgIndexKey::None;
@@ -255,6 +239,15 @@ pub fn key_in(code: &[u8], start: usize, end: usize, j: u32) -> OptArgIndexKey
         i += 1;
     }
     OptArgIndexKey::None
+}
+
+// The key at argument j that the records from start up to end give.
+pub fn key_in(code: &[u8], start: usize, end: usize, j: u32) -> OptArgIndexKey
+    requires { ⌜ end ≤ length (recordsOf (now code)) ⌝ }
+    ensures { λ k. ⌜ k ≡ keyIn classOf (slice start end (recordsOf (now (code .entry)))) j ⌝ }
+{
+    let table = classes();
+    key_by(&table, code, start, end, j)
 }
 
 // The key at argument j of the clause at a known offset of checked code, read through a view of the clause. A checked
@@ -303,7 +296,7 @@ fn collect_keys(
     let end = records::capacity(code);
     let mut i = (offset - 1) as usize;
     while i < end {
-        let a = arg_in(table, code, i);
+        let a = extract_index_arg(table, code, i);
         match a {
             InstructionArg::NonHead => {
                 return;

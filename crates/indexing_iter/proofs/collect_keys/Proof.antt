@@ -19,7 +19,7 @@ use Rattle.indexing_iter.proofs.collect_keys.Reads as reads
 use Rattle.indexing_iter.proofs.collect_keys.Lts as lts
 use Rattle.indexing_iter.proofs.bits_of.Reads as bits-of-reads
 use Rattle.indexing_iter.proofs.clear_keys.Reads as clear-keys-reads
-use Rattle.indexing_iter.proofs.arg_in.Reads as arg-in-reads
+use Rattle.indexing_iter.proofs.extract_index_arg.Reads as extract-index-arg-reads
 use Rattle.indexing_iter.proofs.head_of.Reads as head-of-reads
 use Rattle.records.proofs.capacity.Reads as capacity-reads
 
@@ -33,19 +33,19 @@ abbrev μ-loop : tie.MeasureT-loop
 μ-loop table code starts arity offset heads₀ bits₀ n end i₀ heads bits i = end - i
 
 -- in a turn: what the record at i says of the lists
-turn : (c : tie.After-arg-in Inv-loop μ-loop)
+turn : (c : tie.After-extract-index-arg Inv-loop μ-loop)
     → let at = c .before .before in
     let k = at .before .before .before .before .before .before in
     let a = k .before .before .before .before .before .before .before .before .args in
-    FillingStep (c .arg-in .result) (classIn (a .table .now)) (a .arity) (slice (at .loop .i + 1) (at .before .capacity .result) (recordsOf (a .code .now)))
+    FillingStep (c .extract-index-arg .result) (classIn (a .table .now)) (a .arity) (slice (at .loop .i + 1) (at .before .capacity .result) (recordsOf (a .code .now)))
     (at .loop .heads) (at .loop .bits)
     (collected headOf (classIn (a .table .now)) (a .arity) (a .code .now) (a .starts .now) (a .offset) (k .clear-keys .last .0))
     (collected bitsOf (classIn (a .table .now)) (a .arity) (a .code .now) (a .starts .now) (a .offset) (k .clear-keys .last .1 .0))
 turn c =
     let at = c .before .before in
     let rs = recordsOf (at .before .before .before .before .before .before .before .before .before .before .before .before .before .before .args .code .now) in
-    filling-step (getD rs (at .loop .i) none) (slice (at .loop .i + 1) (at .before .capacity .result) rs) (c .arg-in .result) (at .loop .inv .2)
-    (slice-step rs (at .loop .i) (at .before .capacity .result) (c .before .loop-test .taken) (search needs)) (c .arg-in .ensures)
+    filling-step (getD rs (at .loop .i) none) (slice (at .loop .i + 1) (at .before .capacity .result) rs) (c .extract-index-arg .result) (at .loop .inv .2)
+    (slice-step rs (at .loop .i) (at .before .capacity .result) (c .before .loop-test .taken) (search needs)) (c .extract-index-arg .ensures)
 
 clear-keys-requires : tie.Need-clear-keys-requires Inv-loop μ-loop
 clear-keys-requires c κs = search needs
@@ -73,8 +73,8 @@ loop-holds c =
           (k .clear-keys .ensures .0) (k .clear-keys .ensures .1),
     )
 
-arg-in-requires : tie.Need-arg-in-requires Inv-loop μ-loop
-arg-in-requires c κs = search needs
+extract-index-arg-requires : tie.Need-extract-index-arg-requires Inv-loop μ-loop
+extract-index-arg-requires c κs = search needs
 
 enum-told : tie.Need-enum-told Inv-loop μ-loop
 enum-told c = search needs
@@ -189,7 +189,7 @@ collect-keys-spec =
     sub-i
     cast-i
     loop-holds
-    arg-in-requires
+    extract-index-arg-requires
     enum-told
     same-length
     same-length-2

@@ -1,93 +1,23 @@
--- The key at an argument: the records left give the key that the whole run gives. Assumes nothing.
-use Prim.Native.Nat.{_-_, _+_}
-use mathlib.Core.Path.{_≡_}
+-- The key at an argument, by the class table. Assumes nothing.
 use borrow.Author.Needs.{needs}
-use borrow.Author.Tests.{eq-eqb, ne-eqb}
-use mathlib.Core.Logic.{⊎-elim}
-use lib.Seq.{slice}
-use Rattle.records.specs.Records.{recordsOf}
-use Rattle.indexing_iter.specs.Classes.{classOf}
-use Rattle.indexing_iter.specs.Keys.{keyIn, keyStep}
-use Rattle.indexing_iter.proofs.Parts.{slice-step, slice-done}
 use Rattle.indexing_iter.proofs.key_in.Statement.{statement}
 use Rattle.indexing_iter.proofs.key_in.Tie as tie
 use Rattle.indexing_iter.proofs.key_in.Reads as reads
 use Rattle.indexing_iter.proofs.key_in.Lts as lts
-use Rattle.indexing_iter.proofs.extract_index_arg.Reads as extract-index-arg-reads
+use Rattle.indexing_iter.proofs.classes.Reads as classes-reads
+use Rattle.indexing_iter.proofs.key_by.Reads as key-by-reads
 
-abbrev Inv-loop : tie.InvT-loop
-Inv-loop code start end j i₀ i = keyIn classOf (slice i end (recordsOf code)) j ≡ keyIn classOf (slice start end (recordsOf code)) j
+classes-requires : tie.Need-classes-requires
+classes-requires c κs = search needs
 
-abbrev μ-loop : tie.MeasureT-loop
-μ-loop code start end j i₀ i = end - i
+slice-aggregate-key-by : tie.Need-slice-aggregate-key-by
+slice-aggregate-key-by c = search needs
 
--- in a turn: what the record at i says, and the key of the records after it, give the key
-turn : (c : tie.After-extract-index-arg Inv-loop μ-loop)
-    → let a = c .before .before .before .before .args in
-    let i = c .before .before .loop .i in
-    keyStep (c .extract-index-arg .result) (a .j) (keyIn classOf (slice (i + 1) (a .end) (recordsOf (a .code .now))) (a .j))
-    ≡ keyIn classOf (slice (a .start) (a .end) (recordsOf (a .code .now))) (a .j)
-unfolding keyIn
-turn c =
-    let a = c .before .before .before .before .args in
-    rw (slice-step (recordsOf (a .code .now)) _ _ (c .before .loop-test .taken) (search needs), ← c .extract-index-arg .ensures)
-    at (c .before .before .loop .inv)
+key-by-requires : tie.Need-key-by-requires
+key-by-requires c κs = search needs
 
-loop-holds : tie.Need-loop-holds Inv-loop μ-loop
-loop-holds c = search needs
-
-extract-index-arg-requires : tie.Need-extract-index-arg-requires Inv-loop μ-loop
-extract-index-arg-requires c κs = search needs
-
-enum-told : tie.Need-enum-told Inv-loop μ-loop
-enum-told c = search needs
-
-returns : tie.Need-returns Inv-loop μ-loop
-returns c = rw (c .enum-told .given .1) at (turn (c .before .before))
-
-enum-known-a : tie.Need-enum-known-a Inv-loop μ-loop
-enum-known-a c = search needs
-
-returns-2 : tie.Need-returns-2 Inv-loop μ-loop
-returns-2 c = rw (c .before .before .a .given .1, eq-eqb _ _ (c .if1 .taken)) at (turn (c .before .before .before .before))
-
-enum-told-2 : tie.Need-enum-told-2 Inv-loop μ-loop
-enum-told-2 c = search needs
-
-enum-told-3 : tie.Need-enum-told-3 Inv-loop μ-loop
-enum-told-3 c = search needs
-
-add-i : tie.Need-add-i Inv-loop μ-loop
-add-i c = search needs
-
-loop-less : tie.Need-loop-less Inv-loop μ-loop
-loop-less c = search needs
-
-loop-again : tie.Need-loop-again Inv-loop μ-loop
-loop-again c =
-    ⊎-elim (λ w. rw (w .1 .given .1, ne-eqb _ _ (w .3 .left)) at (turn (c .before)))
-    (⊎-elim (λ w. rw (w .1 .given .1) at (turn (c .before))) (λ w. rw (w .1 .given .1) at (turn (c .before))))
-    (c .match .came)
-
-returns-3 : tie.Need-returns-3 Inv-loop μ-loop
-unfolding keyIn
-returns-3 c = rw (slice-done _ _ _ (c .loop-test .left)) at (c .before .loop .inv)
+returns : tie.Need-returns
+returns c = rw (c .before .before .classes .ensures) (c .key-by .ensures)
 
 pub key-in-spec : {M : Type 1} → statement M
-key-in-spec =
-    tie.close
-    (tie.spec
-    Inv-loop
-    μ-loop
-    loop-holds
-    extract-index-arg-requires
-    enum-told
-    returns
-    enum-known-a
-    returns-2
-    enum-told-2
-    enum-told-3
-    add-i
-    loop-less
-    loop-again
-    returns-3)
+key-in-spec = tie.close (tie.spec classes-requires slice-aggregate-key-by key-by-requires returns)

@@ -13,7 +13,7 @@ use Rattle.indexing_iter.proofs.checks.has_body.Tie as tie
 use Rattle.indexing_iter.proofs.checks.has_body.Reads as reads
 use Rattle.indexing_iter.proofs.checks.has_body.Lts as lts
 use Rattle.indexing_iter.proofs.checks.is_body.Reads as is-body-reads
-use Rattle.indexing_iter.proofs.arg_in.Reads as arg-in-reads
+use Rattle.indexing_iter.proofs.extract_index_arg.Reads as extract-index-arg-reads
 
 abbrev Inv-loop : tie.InvT-loop
 Inv-loop table code start end i₀ i = hasBody (classIn table) (slice i end (recordsOf code)) ≡ hasBody (classIn table) (slice start end (recordsOf code))
@@ -33,15 +33,15 @@ turn c =
     let a = at .before .before .before .args in
     rw (
       body-step (classIn (a .table .now)) (recordsOf (a .code .now)) _ _ (c .before .before .loop-test .taken) (search needs),
-      ← c .before .arg-in .ensures,
+      ← c .before .extract-index-arg .ensures,
       ← c .is-body .ensures,
     ) at (at .loop .inv)
 
 loop-holds : tie.Need-loop-holds Inv-loop μ-loop
 loop-holds c = search needs
 
-arg-in-requires : tie.Need-arg-in-requires Inv-loop μ-loop
-arg-in-requires c κs = search needs
+extract-index-arg-requires : tie.Need-extract-index-arg-requires Inv-loop μ-loop
+extract-index-arg-requires c κs = search needs
 
 is-body-requires : tie.Need-is-body-requires Inv-loop μ-loop
 is-body-requires c κs = search needs
@@ -68,7 +68,7 @@ has-body-spec =
     Inv-loop
     μ-loop
     loop-holds
-    arg-in-requires
+    extract-index-arg-requires
     is-body-requires
     returns
     add-i
