@@ -2,6 +2,7 @@
 // tools/replay_lines.py describes the list of inputs and makes it, with the expected output.
 use listing::replay::Next;
 
+// Replays the inputs of the list, a million at most.
 fn replay(buffer: &mut [u8]) {
     let mut n = 0;
     while n < 1000000 {
