@@ -12,6 +12,7 @@ KINDS = ("build", "first", "later", "bound")
 PARTS = {
     "indexing_iter::checks::check_clauses_of": "code",
     "podrulka_walk": "index",
+    "well_formed::formed_with": "index",
     "memset": "clearing",
     "indexing_walk::walk_lists": "lookup",
 }
@@ -79,7 +80,7 @@ def shares():
             for name, cost in functions.items():
                 by[part(name)] += cost
             # the loop over pairs: the walk's own instructions that are run just as often as there are pairs of keys
-            loop = sum(c for (name, _), c in places.items() if name == "podrulka_walk" and c == pairs * CALLS)
+            loop = sum(c for (name, _), c in places.items() if part(name) == "index" and c == pairs * CALLS)
             whole = sum(functions.values())
             row = [by["code"], loop, by["index"] - loop, by["clearing"], by["lookup"]]
             cells = " | ".join(f"{c / CALLS:,.0f} ({100 * c / whole:.0f} %)" for c in row)

@@ -94,7 +94,7 @@ fn expand_dead(index: &mut [u8], t: OnDemand, zeros: &[u32], opens: &[u8], offs:
     }
 }
 
-// The distance of the first new line from line l, which has so many lines before it: a fresh one's, 1, grown by (lines before) - (own line) - 1.
+// The distance of the first new line from line l, in an index of so many lines: a fresh one's, 1, grown by (lines before) - (own line) - 1.
 fn first_distance(l: u32, lines: u32) -> u32
     requires { ⌜ (l < lines) × (lines ≤ 65535) ⌝ }
     ensures { λ r. ⌜ r ≡ lines - l ⌝ }
