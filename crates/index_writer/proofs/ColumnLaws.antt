@@ -40,6 +40,16 @@ fill-whole {A} {s} {l₀} {l} {i} F e h =
     let u : length l ≤ i = omega (arith, F .same) in
     sym (take-all i l u) ∙ F .done ∙ take-all i s h
 
+-- the lengths of a column, of what fills it, and of the clauses are one number
+pub column-room : {m n k : ℕ} → m ≡ n → k ≡ n → m ≤ k
+column-room e f = omega arith
+
+pub column-in : {m n i : ℕ} → m ≡ n → i < n → i < m
+column-in e h = omega arith
+
+pub column-done : {m n i : ℕ} → m ≡ n → n ≤ i → m ≤ i
+column-done e h = omega arith
+
 -- an element of what a function makes of a list
 getD-map-in : {A B : Type 0} (f : A → B) (l : List A) (i : ℕ) (d : A) (e : B) → i < length l → getD (map f l) i e ≡ f (getD l i d)
 getD-map-in f [] i d e h = absurd (not-suc-le-zero h)
@@ -191,6 +201,13 @@ pub record Rows (K : ℕ → ℕ → Key) (arity : ℕ) (offs l₀ l : List ℕ)
 pub rows-start : (K : ℕ → ℕ → Key) (arity : ℕ) (offs l : List ℕ) → Rows K arity offs l l 0
 unfolding opensTo listTo
 rows-start K arity offs l = record { same = refl; done = refl }
+
+-- a row is 32 numbers, and there is room for that of clause i
+pub row-wide : (i : ℕ) → 32 * i + 32 - 32 * i ≡ 32
+row-wide i = omega arith
+
+pub row-room : {n i m : ℕ} → i < n → m ≡ 32 * n → 32 * i + 32 ≤ m
+row-room h e = omega arith
 
 -- the row of one clause more
 pub rows-more : {K : ℕ → ℕ → Key} {arity : ℕ} {offs l₀ l : List ℕ} {i : ℕ} (k : ℕ) (row : List ℕ) → Rows K arity offs l₀ l i → 32 * i + 32 ≤ length l₀ → k ≡ 32
