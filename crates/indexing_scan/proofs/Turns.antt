@@ -8,21 +8,12 @@ use native.Mathlib.Nat.{add-zero}
 use native.Mathlib.Numerals.{add-one}
 use native.Mathlib.Omega.{arith}
 use lib.Dec.{eqb}
-use lib.ListN.{length, getD, take, drop, set, List·getD-eq-default}
-use lib.Seq.{slice, slice-empty, slice-cons, length-slice, length-take-le, take-suc, drop-cons, drop-append-le, append-snoc, set-at, getD-take}
+use lib.ListN.{length, getD, take, drop, set}
+use lib.Seq.{slice, slice-empty, slice-cons, length-slice, length-take-le, take-suc, drop-cons, drop-append-le, append-snoc, set-at}
 use Rattle.records.specs.declared.Rec.{Rec}
 use Rattle.records.specs.Records.{none}
 use Rattle.indexing.specs.Columns.{wordsOf}
 use Rattle.indexing_scan.specs.Places.{upTo, countOf, throughLine}
-
--- the record at a place of the first n, and behind them
-pub in-first : (l : List Rec) (n p : ℕ) → p < n → getD l p none ≡ getD (take n l) p none
-in-first l n p h = sym (getD-take n l p none h)
-
-pub behind-first : (l : List Rec) (n p : ℕ) → n ≤ length l → n ≤ p → none ≡ getD (take n l) p none
-behind-first l n p k h =
-    let e : length (take n l) ≤ p = omega (arith, length-take-le n l k) in
-    sym (List·getD-eq-default (take n l) none e)
 
 slice-none : (l : List Rec) (i n : ℕ) → i ≡ n → slice i n l ≡ []
 slice-none l i n e = ap (λ (k : ℕ). slice k n l) e ∙ slice-empty n l

@@ -5,9 +5,9 @@ use records::Rec;
 ghost use mathlib.Core.Path.{_≡_};
 ghost use mathlib.Core.List.{_++_};
 ghost use Prim.Native.Nat.{_+_, _≤_, _<_};
-ghost use lib.ListN.{length, getD, take, drop};
+ghost use lib.ListN.{length, take, drop};
 ghost use lib.Seq.{slice};
-ghost use Rattle.records.specs.Records.{recordsOf, none};
+ghost use Rattle.records.specs.Records.{recordsOf};
 ghost use Rattle.indexing.specs.Columns.{wordsOf};
 ghost use Rattle.indexing_scan.specs.Places.{isItem, isTable, inRun, leaves, upTo, countOf, behindTable, behindLine, firstOffset, offsetsAt, inGroup, hasKey, chooseRec};
 
@@ -23,23 +23,6 @@ pub enum Chosen {
     Nothing,
     Only(u32),
     Equal(u32),
-}
-
-// The record at place p, or an empty one behind the last.
-pub fn record_in(index: &[u8], n: usize, p: usize) -> Rec
-    requires { ⌜ n ≤ length (recordsOf (now index)) ⌝ }
-    ensures { λ r. ⌜ r ≡ getD (take n (recordsOf (now (index .entry)))) p none ⌝ }
-{
-    if p < n {
-        return records::get(index, p);
-    }
-    Rec {
-        kind: 0,
-        sub: 0,
-        half: 0,
-        word: 0,
-        long: 0,
-    }
 }
 
 // Whether a record of that kind is an entry or a dead clause.

@@ -218,7 +218,7 @@ pub fn turn(code: &[u8], starts: &[u32], settings: Settings, call: &[u8], index:
     requires { ⌜ (length (now list) ≡ 1024) × (length (now tags) ≡ 1024) ⌝ }
     ensures { λ r. ⌜ Turns (now (code .entry)) (now (starts .entry)) settings (now (call .entry)) (now (index .entry)) w (now (index .exit)) (now (list .exit)) r ⌝ }
 {
-    let r = indexing_scan::stored::record_in(index, w.count, w.at);
+    let r = records::record_in(index, w.count, w.at);
     let kind = r.kind;
     if !indexing_scan::stored::is_table(kind) {
         return Turned::Done(end_line(index, w, list));

@@ -66,8 +66,3 @@ behind-within rs i h = omega (arith, starts-within (drop 1 rs), length-drop 1 rs
 
 pub behind-most : (rs : List Rec) → length (startsIn (drop 1 rs)) ≤ length rs
 behind-most rs = omega (arith, starts-within (drop 1 rs), length-drop 1 rs)
-
--- past the end
-pub first-none : (rs : List Rec) → length rs < 1 → none ≡ getD rs 0 none
-first-none [] h = refl
-first-none (r ∷ rs) h = absurd (omega arith)

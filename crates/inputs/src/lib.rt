@@ -49,16 +49,8 @@ pub fn settings_in(r: Rec) -> Settings
 pub fn first_record(input: &[u8]) -> Rec
     ensures { λ r. ⌜ r ≡ getD (recordsOf (now (input .entry))) 0 none ⌝ }
 {
-    if records::capacity(input) < 1 {
-        return Rec {
-            kind: 0,
-            sub: 0,
-            half: 0,
-            word: 0,
-            long: 0,
-        };
-    }
-    records::get(input, 0)
+    let n = records::capacity(input);
+    records::record_in(input, n, 0)
 }
 
 // How many starts follow the first record.

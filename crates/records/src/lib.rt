@@ -2,7 +2,7 @@
 // and writers are stated over `recordsOf`.
 ghost use mathlib.Core.Path.{_≡_};
 ghost use Prim.Native.Nat.{_+_, _≤_, _<_};
-ghost use lib.ListN.{length, set, getD};
+ghost use lib.ListN.{length, take, set, getD};
 ghost use Rattle.records.specs.Bytes.{le16, le32, le64};
 ghost use Rattle.records.specs.Records.{decode, encodeRec, recordsOf, none, Wrote};
 ghost use Rattle.records.specs.Moves.{written, moved, gapped};
@@ -130,6 +130,30 @@ pub fn get(index: &[u8], at: usize) -> Rec
     let start = 16 * at;
     let end = start + 16;
     load(&index[start..end])
+}
+
+// A record of zeros.
+pub fn zeros() -> Rec
+    ensures { λ r. ⌜ r ≡ none ⌝ }
+{
+    Rec {
+        kind: 0,
+        sub: 0,
+        half: 0,
+        word: 0,
+        long: 0,
+    }
+}
+
+// The record at place p of the first n records, or one of zeros behind them.
+pub fn record_in(index: &[u8], n: usize, p: usize) -> Rec
+    requires { ⌜ n ≤ length (recordsOf (now index)) ⌝ }
+    ensures { λ r. ⌜ r ≡ getD (take n (recordsOf (now (index .entry)))) p none ⌝ }
+{
+    if p < n {
+        return get(index, p);
+    }
+    zeros()
 }
 
 // Writes a record at a place of the buffer.

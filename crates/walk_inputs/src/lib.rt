@@ -6,7 +6,7 @@ ghost use mathlib.Core.Path.{_≡_};
 ghost use Prim.Native.Nat.{_+_, _-_, _*_, _/_, _≤_, _<_, min};
 ghost use mathlib.Core.List.{_++_};
 ghost use lib.ListN.{length, getD, replicate};
-ghost use Rattle.records.specs.Records.{recordsOf, none};
+ghost use Rattle.records.specs.Records.{recordsOf};
 ghost use Rattle.indexing_builder.specs.Answer.{builtOf};
 ghost use Rattle.indexing_walk.specs.Answers.{walkedOf};
 ghost use Rattle.walk_inputs.specs.Plan.{heardOf, recordOf, givenOf, placeOf, plannedBy, planOf, stepOf, partOf};
@@ -62,30 +62,17 @@ fn left(n: usize, at: usize) -> usize
     0
 }
 
-// A record of zeros.
-fn zeros() -> Rec
-    ensures { λ r. ⌜ r ≡ none ⌝ }
-{
-    Rec {
-        kind: 0,
-        sub: 0,
-        half: 0,
-        word: 0,
-        long: 0,
-    }
-}
-
 // The record at a place where it is of that kind; else, and past the end, a record of zeros.
 fn record_of(input: &[u8], kind: u8, at: usize) -> Rec
     ensures { λ r. ⌜ r ≡ recordOf kind (recordsOf (now (input .entry))) at ⌝ }
 {
     let n = records::capacity(input);
-    let r = indexing_scan::stored::record_in(input, n, at);
+    let r = records::record_in(input, n, at);
     let found = r.kind;
     if found == kind {
         return r;
     }
-    zeros()
+    records::zeros()
 }
 
 // The record 243 at a place, where an index is handed in.
@@ -95,7 +82,7 @@ fn given_of(input: &[u8], handed: bool, at: usize) -> Rec
     if handed {
         return record_of(input, 243, at);
     }
-    zeros()
+    records::zeros()
 }
 
 // How many places a record takes that may be missing.

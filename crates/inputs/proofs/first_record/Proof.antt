@@ -1,7 +1,11 @@
--- The first record, or none. Assumes nothing.
-use native.Mathlib.Omega.{arith}
-use Rattle.records.specs.Records.{recordsOf}
-use Rattle.inputs.proofs.StartLaws.{first-none}
+-- The first record, or one of zeros. Assumes nothing.
+use mathlib.Core.Path.{ap, _∙_}
+use mathlib.Core.List.{List}
+use Prim.Native.Nat.{ℕ}
+use lib.ListN.{take, getD}
+use lib.Seq.{take-length}
+use Rattle.records.specs.declared.Rec.{Rec}
+use Rattle.records.specs.Records.{recordsOf, none}
 use borrow.Author.Needs.{needs}
 use Rattle.inputs.proofs.first_record.Statement.{statement}
 use Rattle.inputs.proofs.first_record.Tie as tie
@@ -9,14 +13,13 @@ use Rattle.inputs.proofs.first_record.Tie as tie
 capacity-requires : tie.Need-capacity-requires
 capacity-requires c κs = search needs
 
+record-in-requires : tie.Need-record-in-requires
+record-in-requires c κs = search needs
+
 returns : tie.Need-returns
-returns c = first-none (recordsOf (c .before .before .before .args .input .now)) (omega arith)
-
-get-requires : tie.Need-get-requires
-get-requires c κs = search needs
-
-returns-2 : tie.Need-returns-2
-returns-2 c = search needs
+returns c =
+    let l = recordsOf (c .before .before .before .args .input .now) in
+    c .record-in .ensures ∙ ap (λ (n : ℕ). getD (take n l) 0 none) (c .before .capacity .ensures) ∙ ap (λ (x : List Rec). getD x 0 none) (take-length l)
 
 pub first-record-spec : {M : Type 1} → statement M
-first-record-spec = tie.close (tie.spec capacity-requires returns get-requires returns-2)
+first-record-spec = tie.close (tie.spec capacity-requires record-in-requires returns)

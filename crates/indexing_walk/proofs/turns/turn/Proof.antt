@@ -18,7 +18,7 @@ use Rattle.indexing_walk.proofs.turns.turn.Lts as lts
 use Rattle.indexing_iter.proofs.is_open.Reads as is-open-reads
 use Rattle.indexing_scan.proofs.calls.call_key.Reads as call-key-reads
 use Rattle.indexing_scan.proofs.stored.is_table.Reads as is-table-reads
-use Rattle.indexing_scan.proofs.stored.record_in.Reads as record-in-reads
+use Rattle.records.proofs.record_in.Reads as record-in-reads
 use Rattle.indexing_walk.proofs.turns.end_line.Reads as end-line-reads
 use Rattle.indexing_walk.proofs.turns.pass_table.Reads as pass-table-reads
 use Rattle.indexing_walk.proofs.turns.turn_bound.Reads as turn-bound-reads
