@@ -10,7 +10,7 @@ use lib.ListN.{length, getD, take, drop, length-map}
 use lib.Seq.{slice, getD-drop}
 use borrow.Author.Tests.{ltb-false}
 use Rattle.records.specs.declared.Rec.{Rec}
-use Rattle.records.specs.Records.{recordsOf, none, Fits, AllFit}
+use Rattle.records.specs.Records.{recordsOf, zeroRec, Fits, AllFit}
 use Rattle.records.proofs.Fitting.{fit-none, fit-recordsOf}
 use Rattle.records.proofs.Whole.{Bytes}
 use Rattle.indexing_iter.specs.declared.Settings.{Settings}
@@ -23,7 +23,7 @@ use Rattle.indexing_iter.specs.declared.Checked.the-variants.{Passed, Refused}
 use Rattle.indexing_iter.specs.Classes.{isKeyed, isShallowTemp, keyOfClass, argOfClass, instructionArg}
 use Rattle.indexing_iter.specs.Keys.{arityOf, bitsOf, isOpen, keyStep, keyIn}
 use Rattle.indexing_iter.specs.Clauses.{endOf, clausesOf, offsetsOf, clauseAt, keyOf, known}
-use Rattle.indexing_iter.specs.Checks.{orElse, refuse, checkArity, checkChosen, checkSize, checkStarts, risingBelow, hasBody, recordBad, registerBad, registerStep}
+use Rattle.indexing_iter.specs.Checks.{otherwise, refuse, checkArity, checkChosen, checkSize, checkStarts, risingBelow, hasBody, recordBad, registerBad, registerStep}
 use Rattle.indexing_iter.specs.Checks.{checkRecords, checkClause, checkClauses, openSomewhere, checkKeyed, checkClausesOf, checkCode, checkBuild}
 use Rattle.indexing_iter.proofs.CheckLaws.{Rising, code-arity, code-starts, code-offsets, offset-known, build-code, build-chosen}
 use Rattle.indexing_iter.proofs.KeyLaws.{or-else-first, or-else-next, known-small}
@@ -40,7 +40,7 @@ abbrev Numbered : Checked → Type 0
 Numbered Passed = Unit {0}
 Numbered (Refused n) = 1 ≤ n
 
-numbered-else : (a b : Checked) → Numbered a → Numbered b → Numbered (orElse a b)
+numbered-else : (a b : Checked) → Numbered a → Numbered b → Numbered (otherwise a b)
 numbered-else Passed b f g = g
 numbered-else (Refused n) b f g = f
 
@@ -91,11 +91,11 @@ accepted (Refused n) S idx buffer f e = absurd (omega arith)
 
 module _ (cls : ℕ → ℕ) (code starts : List ℕ) (S : Settings) (c : ℕ) (buffer : List ℕ) (accepts : buildCall cls code starts S c buffer .number ≡ 0) where
   -- an accepted build passed 1 to 9
-  build-checks : orElse (checkBuild cls (S .arity) c code starts) (checkRoom buffer (indexOf cls code starts S c)) ≡ Passed
+  build-checks : otherwise (checkBuild cls (S .arity) c code starts) (checkRoom buffer (indexOf cls code starts S c)) ≡ Passed
   unfolding buildCall
   build-checks =
       let idx : Index = indexOf cls code starts S c in
-      accepted (orElse (checkBuild cls (S .arity) c code starts) (checkRoom buffer idx)) S idx buffer
+      accepted (otherwise (checkBuild cls (S .arity) c code starts) (checkRoom buffer idx)) S idx buffer
       (numbered-else (checkBuild cls (S .arity) c code starts) (checkRoom buffer idx) (numbered-build cls (S .arity) c code starts)
       (numbered-test (ltb (capacityOf buffer) (size idx)) 9 Passed (omega arith) tt)) accepts
 
@@ -169,7 +169,7 @@ fit-take (suc n) (r ∷ rs) f zero = f 0
 fit-take (suc n) (r ∷ rs) f (suc i) = fit-take n rs (λ k. f (suc k)) i
 
 fit-drop : (n : ℕ) (rs : List Rec) → AllFit rs → AllFit (drop n rs)
-fit-drop n rs f i = rw (getD-drop n rs i none) (f (n + i))
+fit-drop n rs f i = rw (getD-drop n rs i zeroRec) (f (n + i))
 
 fit-clause : (rs : List Rec) (starts : List ℕ) (o : ℕ) → AllFit rs → AllFit (clauseAt rs starts o)
 unfolding clauseAt

@@ -14,7 +14,7 @@ use Rattle.records.specs.Records.{recordsOf}
 use Rattle.indexing_iter.specs.declared.Settings.{Settings}
 use Rattle.indexing_iter.specs.declared.Checked.the-variants.{Passed, Refused}
 use Rattle.indexing_iter.specs.Clauses.{offsetsOf, known}
-use Rattle.indexing_iter.specs.Checks.{orElse, refuse}
+use Rattle.indexing_iter.specs.Checks.{otherwise, refuse}
 use Rattle.indexing_iter.proofs.CheckLaws.{build-code}
 use Rattle.indexing.proofs.Grown.{Grown, grown-same, grown-size, grown-fits}
 use Rattle.indexing.proofs.Tests.{both, le-true}
@@ -117,7 +117,7 @@ module _ (cls : ℕ → ℕ) (code starts : List ℕ) (S : Settings) (c : ℕ) (
           (go (not (eqb (length (q .call)) (16 * S .arity) && every argumentOk (recordsOf (q .call)))) (ltb (length (q .out)) (length starts)))
         where
           go : (t u : Bool)
-              → X (walkedBy (orElse (refuse t 10) (orElse (refuse u 11) Passed)) S (resultOf cls code starts S (q .call) index count) index (q .out))
+              → X (walkedBy (otherwise (refuse t 10) (otherwise (refuse u 11) Passed)) S (resultOf cls code starts S (q .call) index count) index (q .out))
           go true u = ten
           go false true = eleven
           go false false = passed

@@ -20,7 +20,7 @@ use Rattle.indexing.proofs.Pointers.{Closed, later-none-switch, closed-expand}
 use Rattle.indexing.specs.Build.{Program, openAt, virtual, newEntries}
 use Rattle.indexing.specs.Expand.{expanded, expand, seed, build}
 use Rattle.indexing.specs.Lines.{Ptr, ext, int, Entry, Table, switch, onDemand, dead, Index, lineAt, offs, find}
-use Rattle.indexing.specs.Lists.{any}
+use Rattle.indexing.specs.Lists.{anyOf}
 use Rattle.indexing_scan.proofs.Choose.{Ways, ways-none, ways-some, choose-linked}
 use Rattle.indexing_scan.proofs.Same.{kept, same-from}
 use Rattle.indexing_scan.specs.Agree.{Call, agree}
@@ -46,7 +46,7 @@ module _ (P : Program) where
     pub keyed : openAt P b os ≡ []
     pub parts : List (Entry (List ℕ))
     pub right : Buckets P b os parts
-    pub complete : (q : Key) → isOpen q ≡ false → any (λ e. same (e .key) q) parts ≡ false → any (λ k. same k q) (map (λ o. P .keyOf o b) os) ≡ false
+    pub complete : (q : Key) → isOpen q ≡ false → anyOf (λ e. same (e .key) q) parts ≡ false → anyOf (λ k. same k q) (map (λ o. P .keyOf o b) os) ≡ false
     pub linked : Linked (Goes idx b) es parts
 
   -- line 0 has the clauses os, and its switches are right

@@ -22,7 +22,7 @@ use Rattle.indexing.specs.Build.{linesFor, entriesFor}
 use Rattle.indexing.specs.Expand.{expanded, added, expand, seed, build}
 use Rattle.indexing.specs.Lines.{Ptr, ext, int, Entry, Table, switch, onDemand, dead, Choice, Line, Index, noLine, lineAt, offs, argOf, swap, word}
 use Rattle.indexing.specs.Lines.{entryRec, deadRec, tableRecs, tablesRecs, choiceRec, modeOf, lineRec, records}
-use Rattle.indexing.specs.Lists.{keep, any, every}
+use Rattle.indexing.specs.Lists.{keep, anyOf, every}
 use Rattle.well_formed.specs.WellFormed.{risingOk, argsOk, keyOk, keysOk, entryKeys, tagOk, someOk, choicesOk, pointerOk, tableOk, lineOk, linesOk, indexOk}
 use Rattle.well_formed.proofs.SwitchKeys.{keys-parts}
 use Rattle.claims.proofs.Accepted.{Narrow}
@@ -169,7 +169,7 @@ module _ (known : ℕ → Bool) (small : (o : ℕ) → known o ≡ true → o < 
     fit-entries l a g [] k p f = λ i. fit-none
     fit-entries l a g (e ∷ es) k p f =
         let x = keys-parts g (e .key) (entryKeys es) k in
-        let s = and-true (keyOk (e .key)) (not (any (same (e .key)) (entryKeys es)) && keysOk (groupOf (e .key)) (entryKeys es)) (x .1) .0 in
+        let s = and-true (keyOk (e .key)) (not (anyOf (same (e .key)) (entryKeys es)) && keysOk (groupOf (e .key)) (entryKeys es)) (x .1) .0 in
         let y = and-true (pointerOk arity dynamic known idx l a (e .to)) (every (λ e. pointerOk arity dynamic known idx l a (e .to)) es) p in
         fit-cons (entryRec e) (map entryRec es)
         (record { kind = omega arith; sub = sort-small (e .key) s; half = f .0 .0; word = word-small l a (e .to) (y .0); long = f .0 .1 })

@@ -19,7 +19,7 @@ use Rattle.indexing.proofs.Lists.{add-empty, keep-sublist, any-keep, any-append
 use Rattle.indexing.proofs.Tests.{eqb-same, bool-absurd, and-true, or-false, not-false, not-true}
 use Rattle.indexing.specs.Build.{Program, openAt, keysAt, literals, lists, structures, bucket, lone, buckets, virtual}
 use Rattle.indexing.specs.Lines.{Ptr, Entry, Table, switch, onDemand, dead, Index}
-use Rattle.indexing.specs.Lists.{add, keep, any, distinct}
+use Rattle.indexing.specs.Lists.{add, keep, anyOf, distinct}
 use Rattle.indexing_iter.proofs.CheckLaws.{Rising}
 use Rattle.indexing_scan.proofs.Rising.{rising-weaken}
 use Rattle.indexing_scan.specs.Agree.{Call, agreeAt, agreeFrom, agree}
@@ -71,46 +71,46 @@ module _ (P : Program) (a : ℕ) (os : List ℕ) where
 -- ---- the keys that occur at a, and the call's key q
 
 module _ (P : Program) (a : ℕ) (q : Key) where
-  any-distinct : (ks : List Key) → any (λ k. same k q) (distinct same ks) ≡ any (λ k. same k q) ks
+  any-distinct : (ks : List Key) → anyOf (λ k. same k q) (distinct same ks) ≡ anyOf (λ k. same k q) ks
   any-distinct [] = refl
   any-distinct (k ∷ ks) = go (same k q) refl (any-distinct ks)
     where
-      go : (b : Bool) → same k q ≡ b → any (λ k. same k q) (distinct same ks) ≡ any (λ k. same k q) ks
-          → b || any (λ k. same k q) (keep (λ l. not (same k l)) (distinct same ks)) ≡ b || any (λ k. same k q) ks
+      go : (b : Bool) → same k q ≡ b → anyOf (λ k. same k q) (distinct same ks) ≡ anyOf (λ k. same k q) ks
+          → b || anyOf (λ k. same k q) (keep (λ l. not (same k l)) (distinct same ks)) ≡ b || anyOf (λ k. same k q) ks
       go true e ih = refl
       go false e ih = any-keep (λ k. same k q) (λ l. not (same k l)) (distinct same ks) (λ l n. rw (same-eq k l (not-false (same k l) n)) at e) ∙ ih
 
-  grouped : (g : ℕ) → groupOf q ≡ g → (ks : List Key) → any (λ k. same k q) (keep (λ k. eqb g (groupOf k)) ks) ≡ any (λ k. same k q) ks
+  grouped : (g : ℕ) → groupOf q ≡ g → (ks : List Key) → anyOf (λ k. same k q) (keep (λ k. eqb g (groupOf k)) ks) ≡ anyOf (λ k. same k q) ks
   grouped g e ks =
       any-keep (λ k. same k q) (λ k. eqb g (groupOf k)) ks (λ k n. not-true (λ f. bool-absurd {b = eqb g (groupOf k)} (rw (same-eq k q f, e) (eqb-same g)) n))
 
-  any-buckets : (os : List ℕ) (ks : List Key) → any (λ e. same (e .key) q) (buckets P a os ks) ≡ any (λ k. same k q) ks
+  any-buckets : (os : List ℕ) (ks : List Key) → anyOf (λ e. same (e .key) q) (buckets P a os ks) ≡ anyOf (λ k. same k q) ks
   any-buckets os [] = refl
   any-buckets os (k ∷ ks) = rw (any-buckets os ks)
 
-  any-virtual : (os : List ℕ) → any (λ e. same (e .key) q) (virtual P a os) ≡ any (λ k. same k q) (literals P a os ++ (lists P a os ++ structures P a os))
+  any-virtual : (os : List ℕ) → anyOf (λ e. same (e .key) q) (virtual P a os) ≡ anyOf (λ k. same k q) (literals P a os ++ (lists P a os ++ structures P a os))
   any-virtual os = simp (any-append, any-buckets)
 
-  occurs : isOpen q ≡ false → (os : List ℕ) → any (λ k. same k q) (literals P a os ++ (lists P a os ++ structures P a os)) ≡ false
-      → any (λ k. same k q) (keysAt P a os) ≡ false
+  occurs : isOpen q ≡ false → (os : List ℕ) → anyOf (λ k. same k q) (literals P a os ++ (lists P a os ++ structures P a os)) ≡ false
+      → anyOf (λ k. same k q) (keysAt P a os) ≡ false
   occurs bound os e =
       let has : Key → Bool = λ k. same k q in
-      let x = or-false (any has (literals P a os)) (any has (lists P a os ++ structures P a os))
+      let x = or-false (anyOf has (literals P a os)) (anyOf has (lists P a os ++ structures P a os))
       (sym (any-append has (literals P a os) (lists P a os ++ structures P a os)) ∙ e) in
-      let y = or-false (any has (lists P a os)) (any has (structures P a os)) (sym (any-append has (lists P a os) (structures P a os)) ∙ x .1) in
-      by-group q bound (any has (keysAt P a os) ≡ false)
+      let y = or-false (anyOf has (lists P a os)) (anyOf has (structures P a os)) (sym (any-append has (lists P a os) (structures P a os)) ∙ x .1) in
+      by-group q bound (anyOf has (keysAt P a os) ≡ false)
       (λ g. sym (grouped 1 g (keysAt P a os)) ∙ x .0)
       (λ g. go (P .dynamic) g (y .0))
       (λ g. sym (grouped 3 g (keysAt P a os)) ∙ y .1)
     where
-      go : (d : Bool) → q ≡ ListKey → any (λ k. same k q) (cond d (ListKey ∷ []) (keep (λ k. eqb 2 (groupOf k)) (keysAt P a os))) ≡ false
-          → any (λ k. same k q) (keysAt P a os) ≡ false
+      go : (d : Bool) → q ≡ ListKey → anyOf (λ k. same k q) (cond d (ListKey ∷ []) (keep (λ k. eqb 2 (groupOf k)) (keysAt P a os))) ≡ false
+          → anyOf (λ k. same k q) (keysAt P a os) ≡ false
       go true g f = bool-absurd {b = same ListKey q} (rw g) (or-false (same ListKey q) false f .0)
       go false g f = sym (grouped 2 (ap groupOf g) (keysAt P a os)) ∙ f
 
   -- a bound key that no entry has is no clause's key
-  pub virtual-complete : isOpen q ≡ false → (os : List ℕ) → any (λ e. same (e .key) q) (virtual P a os) ≡ false
-      → any (λ k. same k q) (map (λ o. P .keyOf o a) os) ≡ false
+  pub virtual-complete : isOpen q ≡ false → (os : List ℕ) → anyOf (λ e. same (e .key) q) (virtual P a os) ≡ false
+      → anyOf (λ k. same k q) (map (λ o. P .keyOf o a) os) ≡ false
   virtual-complete bound os f = sym (any-distinct (map (λ o. P .keyOf o a) os)) ∙ occurs bound os (sym (any-virtual os) ∙ f)
 
 -- ---- one switch: the clauses os, all with a key at a, the call's key q
@@ -140,10 +140,10 @@ module _ (P : Program) (a : ℕ) (q : Key) (bound : isOpen q ≡ false) (ag : �
       go false x ih = ih
 
   -- no clause has the call's key
-  absent : (os : List ℕ) → openAt P a os ≡ [] → any (λ k. same k q) (map (λ o. P .keyOf o a) os) ≡ false → keep ag os ≡ []
+  absent : (os : List ℕ) → openAt P a os ≡ [] → anyOf (λ k. same k q) (map (λ o. P .keyOf o a) os) ≡ false → keep ag os ≡ []
   absent [] e f = refl
   absent (o ∷ os) e f =
-      let g = or-false (same (P .keyOf o a) q) (any (λ k. same k q) (map (λ o. P .keyOf o a) os)) f in
+      let g = or-false (same (P .keyOf o a) q) (anyOf (λ k. same k q) (map (λ o. P .keyOf o a) os)) f in
       rw (differs o (keyed o os e .0) (g .0)) (absent os (keyed o os e .1) (g .1))
 
   module _ (os : List ℕ) (keys : openAt P a os ≡ []) where
@@ -151,17 +151,17 @@ module _ (P : Program) (a : ℕ) (q : Key) (bound : isOpen q ≡ false) (ag : �
         → Right ag os (some (record { how = h; to = e .to }))
     follows h e f g = rw f (g, keep-sublist (λ o. same (P .keyOf o a) (e .key)) os)
 
-    equal-right : (es : List (Entry (List ℕ))) → Buckets P a os es → (any (λ e. same (e .key) q) es ≡ false → keep ag os ≡ [])
+    equal-right : (es : List (Entry (List ℕ))) → Buckets P a os es → (anyOf (λ e. same (e .key) q) es ≡ false → keep ag os ≡ [])
         → Right ag os (marked 5 (equal q es))
     equal-right [] b f = f refl
     equal-right (e ∷ es) b f = go (same (e .key) q) refl (equal-right es (b .1))
       where
-        go : (x : Bool) → same (e .key) q ≡ x → ((any (λ e. same (e .key) q) es ≡ false → keep ag os ≡ []) → Right ag os (marked 5 (equal q es)))
+        go : (x : Bool) → same (e .key) q ≡ x → ((anyOf (λ e. same (e .key) q) es ≡ false → keep ag os ≡ []) → Right ag os (marked 5 (equal q es)))
             → Right ag os (marked 5 (cond x (some (e .to)) (equal q es)))
         go true y ih = follows 5 e (b .0) (bucket-same os (e .key) keys y)
         go false y ih = ih (λ z. f (rw (y, z)))
 
-    pick-right : (es : List (Entry (List ℕ))) → Buckets P a os es → (any (λ e. same (e .key) q) es ≡ false → keep ag os ≡ []) → Right ag os (pick P q es)
+    pick-right : (es : List (Entry (List ℕ))) → Buckets P a os es → (anyOf (λ e. same (e .key) q) es ≡ false → keep ag os ≡ []) → Right ag os (pick P q es)
     pick-right [] b f = f refl
     pick-right (e ∷ []) b f = go (same (e .key) q) refl
       where
@@ -172,7 +172,7 @@ module _ (P : Program) (a : ℕ) (q : Key) (bound : isOpen q ≡ false) (ag : �
 
     -- a switch whose entries lead to their keys' buckets and miss no key that occurs
     pub chosen-right : (es : List (Entry (List ℕ))) → Buckets P a os es
-        → (any (λ e. same (e .key) q) es ≡ false → any (λ k. same k q) (map (λ o. P .keyOf o a) os) ≡ false) → Right ag os (choose P q es)
+        → (anyOf (λ e. same (e .key) q) es ≡ false → anyOf (λ k. same k q) (map (λ o. P .keyOf o a) os) ≡ false) → Right ag os (choose P q es)
     chosen-right es b f = pick-right (keep (λ e. eqb (groupOf q) (groupOf (e .key))) es) (buckets-keep P a os (λ e. eqb (groupOf q) (groupOf (e .key))) es b)
         (λ g. absent os keys (f (sym (any-keep (λ e. same (e .key) q) (λ e. eqb (groupOf q) (groupOf (e .key))) es
         (λ e n. not-true (λ h. bool-absurd {b = eqb (groupOf q) (groupOf (e .key))} (rw (same-eq (e .key) q h) (eqb-same (groupOf q))) n))) ∙ g)))

@@ -5,11 +5,11 @@ use mathlib.Core.Bool.{Bool, true, false}
 use Prim.Native.Nat.{ℕ, zero, suc, _+_, _≤_}
 use native.Mathlib.Omega.{arith}
 use Rattle.indexing.specs.Build.{Program}
-use Rattle.indexing.specs.Expand.{expand}
+use Rattle.indexing.specs.Expand.{expand, State}
 use Rattle.indexing.specs.Lines.{Index, size}
 use Rattle.indexing_scan.proofs.Walks.{settle-quiet, settle-fits, step}
 use Rattle.indexing_scan.specs.Agree.{Call}
-use Rattle.indexing_scan.specs.Walk.{Place, line, unstored, Move, skip, stop, pass, out, goto, act, move, State, Result, lookAt, result, due, walkFrom}
+use Rattle.indexing_scan.specs.Walk.{Place, line, unstored, Move, skip, stop, pass, out, goto, act, move, Result, lookAt, result, due, walkFrom}
 
 -- from some number of records on all is stored
 pub record Enough (whole : ℕ → Bool) : Type 0 where

@@ -7,7 +7,7 @@ use mathlib.Core.Option.{Option, none, some}
 use lib.Dec.{eqb}
 use lib.ListN.{take, replicate}
 use Rattle.records.specs.declared.Rec.{Rec}
-use Rattle.records.specs.Records.{rec, recordsOf, encode}
+use Rattle.records.specs.Records.{recOf, recordsOf, encode}
 use Rattle.indexing_iter.specs.declared.Settings.{Settings}
 use Rattle.indexing_iter.specs.Classes.{classOf}
 use Rattle.indexing.specs.Builder.{Built, buildCall}
@@ -15,14 +15,14 @@ use Rattle.indexing_scan.specs.Calls.{Walked, walkCall}
 
 -- "Worked show": each clause is two key records and one with opcode 64
 abbrev pub atom : ℕ → ℕ → Rec
-atom register bits = rec 18 0 1 register bits
+atom register bits = recOf 18 0 1 register bits
 
 abbrev pub body : Rec
-body = rec 64 0 0 0 0
+body = recOf 64 0 0 0 0
 
 -- keys (atom 7, atom 1), (atom 8, list), (atom 7, atom 2)
 unfoldable pub code : List ℕ
-code = encode (atom 1 7 ∷ atom 2 1 ∷ body ∷ atom 1 8 ∷ rec 17 0 0 2 0 ∷ body ∷ atom 1 7 ∷ atom 2 2 ∷ body ∷ [])
+code = encode (atom 1 7 ∷ atom 2 1 ∷ body ∷ atom 1 8 ∷ recOf 17 0 0 2 0 ∷ body ∷ atom 1 7 ∷ atom 2 2 ∷ body ∷ [])
 
 unfoldable pub starts : List ℕ
 starts = 0 ∷ 3 ∷ 6 ∷ []
@@ -73,16 +73,16 @@ allAlike [] = true
 allAlike (r ∷ rs) = alike (shown r) (r .expected) && allAlike rs
 
 abbrev pub unbound : Rec
-unbound = rec 0 0 0 0 0
+unbound = recOf 0 0 0 0 0
 
 abbrev pub atomKey : ℕ → Rec
-atomKey bits = rec 0 1 0 0 bits
+atomKey bits = recOf 0 1 0 0 bits
 
 abbrev pub listKey : Rec
-listKey = rec 0 5 0 0 0
+listKey = recOf 0 5 0 0 0
 
 abbrev pub structureKey : Rec
-structureKey = rec 0 4 1 0 5
+structureKey = recOf 0 4 1 0 5
 
 -- the whole output of the program `lines`
 abbrev pub listing : List ℕ

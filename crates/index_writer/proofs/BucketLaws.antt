@@ -5,8 +5,8 @@ use native.Mathlib.Omega.{arith}
 use mathlib.Core.Bool.{Bool, true, false, cond}
 use mathlib.Core.List.{List, [], _∷_, _++_}
 use lib.ListN.{length, getD, length-append}
-use Rattle.records.specs.Records.{rec}
-use Rattle.indexing.specs.Upto.{one, countTo}
+use Rattle.records.specs.Records.{recOf}
+use Rattle.indexing.specs.Upto.{bit, countTo}
 use Rattle.indexing.specs.Columns.{sizeOf, sizesTo, needsLine, opensBucket, opensLine, linesTo, emptyList, listLines}
 use Rattle.indexing.specs.Columns.{pointerTo, entryOf, entryAt, entries, listEntries, switchRecs}
 use Rattle.index_writer.proofs.Upto.{count-step, count-le, list-count, length-column, column-at}
@@ -30,7 +30,7 @@ module _ (leaders heads : List ℕ) (dynamic : Bool) (g : ℕ) where
   pub lines-start : (d : ℕ) → d ≡ d + linesTo leaders heads dynamic g 0
   lines-start d = omega (arith, lines-none)
 
-  pub lines-step : (i : ℕ) → linesTo leaders heads dynamic g (i + 1) ≡ linesTo leaders heads dynamic g i + one (opensLine leaders heads dynamic g i)
+  pub lines-step : (i : ℕ) → linesTo leaders heads dynamic g (i + 1) ≡ linesTo leaders heads dynamic g i + bit (opensLine leaders heads dynamic g i)
   unfolding linesTo
   lines-step i = count-step (opensLine leaders heads dynamic g) i
 
@@ -49,11 +49,11 @@ module _ (leaders heads bits offs : List ℕ) (dynamic : Bool) (g : ℕ) where
   unfolding entryAt
   entry-no d i e = rw e
 
-  length-entryAt : (d i : ℕ) → length (entryAt leaders heads bits offs dynamic g d i) ≡ one (opensBucket leaders heads g i)
+  length-entryAt : (d i : ℕ) → length (entryAt leaders heads bits offs dynamic g d i) ≡ bit (opensBucket leaders heads g i)
   unfolding entryAt
   length-entryAt d i = go (opensBucket leaders heads g i)
     where
-      go : (b : Bool) → length (cond b (entryOf leaders heads bits offs dynamic d i ∷ []) []) ≡ one b
+      go : (b : Bool) → length (cond b (entryOf leaders heads bits offs dynamic d i ∷ []) []) ≡ bit b
       go true = refl
       go false = refl
 
@@ -79,7 +79,7 @@ module _ (leaders heads bits offs : List ℕ) (dynamic : Bool) where
 
   -- the list group of a line without lists, and of one with them or that is static
   pub list-empty : (d : ℕ) → emptyList leaders heads dynamic ≡ true
-      → listEntries leaders heads bits offs dynamic d ≡ rec 5 5 0 (2147483648 + d) 0 ∷ []
+      → listEntries leaders heads bits offs dynamic d ≡ recOf 5 5 0 (2147483648 + d) 0 ∷ []
   unfolding listEntries
   list-empty d e = rw e
 
@@ -92,7 +92,7 @@ module _ (leaders heads bits offs : List ℕ) (dynamic : Bool) where
   unfolding listEntries
   length-list d = go (emptyList leaders heads dynamic)
     where
-      go : (b : Bool) → length (cond b (rec 5 5 0 (2147483648 + d) 0 ∷ []) (entries leaders heads bits offs dynamic 2 d))
+      go : (b : Bool) → length (cond b (recOf 5 5 0 (2147483648 + d) 0 ∷ []) (entries leaders heads bits offs dynamic 2 d))
           ≡ cond b 1 (countTo (opensBucket leaders heads 2) (length leaders))
       go true = refl
       go false = length-entries leaders heads bits offs dynamic 2 d
@@ -113,7 +113,7 @@ module _ (leaders heads bits offs : List ℕ) (dynamic : Bool) where
   pub switch-parts : (arg d structures literals : ℕ) → structures ≡ d + listLines leaders heads dynamic
       → literals ≡ structures + linesTo leaders heads dynamic 3 (length leaders)
       → switchRecs leaders heads bits offs dynamic arg d
-      ≡ rec 2 0 arg 0 0 ∷ (entries leaders heads bits offs dynamic 1 literals
+      ≡ recOf 2 0 arg 0 0 ∷ (entries leaders heads bits offs dynamic 1 literals
       ++ (listEntries leaders heads bits offs dynamic d ++ entries leaders heads bits offs dynamic 3 structures))
   unfolding switchRecs
   switch-parts arg d structures literals e f = rw (f, e) refl

@@ -14,7 +14,7 @@ use lib.Seq.{slice, ext-getD, getD-set-same, getD-set-other, getD-take, getD-dro
 use borrow.Author.Tests.{ne-eqb, ltb-true}
 use borrow.Rule.Slice.PartMut.{midOf, postOf, putMid, same-len-mid}
 use Rattle.records.specs.declared.Rec.{Rec}
-use Rattle.records.specs.Records.{recordsOf, none}
+use Rattle.records.specs.Records.{recordsOf, zeroRec}
 use Rattle.records.proofs.Filled.{Filled}
 use Rattle.indexing_iter.specs.declared.OptArgIndexKey.{OptArgIndexKey as Key}
 use Rattle.indexing_iter.specs.declared.OptArgIndexKey.the-variants.{List as ListKey, Literal, None, Structure}
@@ -29,9 +29,9 @@ use Rattle.indexing_iter.proofs.KeyLaws.{key-of-range, collected-at, CodeOk, co
 use Rattle.indexing.proofs.BridgeLists.{list-cong, length-each, getD-each}
 use Rattle.indexing.proofs.BridgeColumns.{leader-first}
 use Rattle.indexing.proofs.Tests.{eqb-same, eqb-other, or-true}
-use Rattle.indexing.specs.Upto.{one, countTo, listTo}
+use Rattle.indexing.specs.Upto.{bit, countTo, listTo}
 use Rattle.indexing.specs.Columns.{sameAt, firstSame, leaderOf, leadersTo, member, sizeOf, sizesTo, openRow, opensTo}
-use Rattle.index_writer.specs.Choices.{AllBelow, AllKnown, openNumbers}
+use Rattle.index_writer.specs.Choices.{NumbersBelow, AllKnown, openNumbers}
 use Rattle.index_writer.proofs.Upto.{count-le}
 
 -- a slice that was filled to its end is the list
@@ -88,7 +88,7 @@ module _ (heads bits : List ℕ) where
   getD-leaders n j h = getD-each (λ j. leaderOf heads bits j) n j 0 h
 
   -- each leader is a place
-  pub leaders-below : (leaders : List ℕ) (n : ℕ) → leaders ≡ leadersTo heads bits n → AllBelow (length leaders) leaders
+  pub leaders-below : (leaders : List ℕ) (n : ℕ) → leaders ≡ leadersTo heads bits n → NumbersBelow (length leaders) leaders
   leaders-below leaders n e i h =
       let l : length leaders ≡ n = ap length e ∙ length-leaders n in
       let g : getD leaders i 0 ≡ leaderOf heads bits i = ap (λ (x : List ℕ). getD x i 0) e ∙ getD-leaders n i (omega arith) in
@@ -134,7 +134,7 @@ module _ (leaders : List ℕ) (n : ℕ) where
       l : List ℕ
       l = sizesBy j
 
-      go : (i : ℕ) → Dec (i ≡ m) → i < n → getD (set l m (getD l m 0 + 1)) i 0 ≡ countTo (member leaders i) j + one (eqb m i)
+      go : (i : ℕ) → Dec (i ≡ m) → i < n → getD (set l m (getD l m 0 + 1)) i 0 ≡ countTo (member leaders i) j + bit (eqb m i)
       go i (yes e) q =
           rw (e, getD-set-same l m (getD l m 0 + 1) 0 (omega (arith, length-sizes j)), eqb-same m, getD-sizes j m h)
       go i (no e) q =
@@ -149,11 +149,11 @@ sizes-all leaders n j e = rw e refl
 
 pub length-open : (heads : List ℕ) (arity : ℕ) → length (openNumbers heads arity) ≡ 32
 unfolding openNumbers
-length-open heads arity = length-each (λ b. one (cond (ltb b arity) (eqb (getD heads b 0) 0) false)) 32
+length-open heads arity = length-each (λ b. bit (cond (ltb b arity) (eqb (getD heads b 0) 0) false)) 32
 
-pub getD-open : (heads : List ℕ) (arity b : ℕ) → b < 32 → getD (openNumbers heads arity) b 0 ≡ one (cond (ltb b arity) (eqb (getD heads b 0) 0) false)
+pub getD-open : (heads : List ℕ) (arity b : ℕ) → b < 32 → getD (openNumbers heads arity) b 0 ≡ bit (cond (ltb b arity) (eqb (getD heads b 0) 0) false)
 unfolding openNumbers
-getD-open heads arity b h = getD-each (λ b. one (cond (ltb b arity) (eqb (getD heads b 0) 0) false)) 32 b 0 h
+getD-open heads arity b h = getD-each (λ b. bit (cond (ltb b arity) (eqb (getD heads b 0) 0) false)) 32 b 0 h
 
 -- a key in range has head 0 if it is none
 open-head : (k : Key) → KeyInRange k → eqb (headOf k) 0 ≡ isOpen k
@@ -167,8 +167,8 @@ pub open-row : (K : ℕ → ℕ → Key) (arity o : ℕ) (heads : List ℕ) → 
     → ((b : ℕ) → KeyInRange (K o b)) → openNumbers heads arity ≡ openRow K arity o
 unfolding openNumbers openRow
 open-row K arity o heads h r =
-    list-cong (λ b. one (cond (ltb b arity) (eqb (getD heads b 0) 0) false) ∷ []) (λ b. one (cond (ltb b arity) (isOpen (K o (b + 1))) false) ∷ []) 32
-    (λ b k. ap (λ (t : Bool). one t ∷ []) (go b (ltb b arity) refl))
+    list-cong (λ b. bit (cond (ltb b arity) (eqb (getD heads b 0) 0) false) ∷ []) (λ b. bit (cond (ltb b arity) (isOpen (K o (b + 1))) false) ∷ []) 32
+    (λ b k. ap (λ (t : Bool). bit t ∷ []) (go b (ltb b arity) refl))
   where
     go : (b : ℕ) (t : Bool) → ltb b arity ≡ t → cond t (eqb (getD heads b 0) 0) false ≡ cond t (isOpen (K o (b + 1))) false
     go b true e = ap (λ (x : ℕ). eqb x 0) (h b (ltb-true b arity e)) ∙ open-head (K o (b + 1)) (r (b + 1))
@@ -176,7 +176,7 @@ open-row K arity o heads h r =
 
 length-row : (K : ℕ → ℕ → Key) (arity o : ℕ) → length (openRow K arity o) ≡ 32
 unfolding openRow
-length-row K arity o = length-each (λ b. one (cond (ltb b arity) (isOpen (K o (b + 1))) false)) 32
+length-row K arity o = length-each (λ b. bit (cond (ltb b arity) (isOpen (K o (b + 1))) false)) 32
 
 -- a list that begins with what f makes of a clause's keys has that of the key at argument a
 pub row-at : (f : Key → ℕ) (cls : ℕ → ℕ) (rs : List Rec) (starts : List ℕ) (o arity : ℕ) (l rest : List ℕ) (a : ℕ)
@@ -234,15 +234,15 @@ rows-end {K} {arity} {offs} {l₀} {l} {i} n R e q =
 
 -- ---- offsets and tags
 
-getD-slice : (rs : List Rec) (f t i : ℕ) → f + i < t → getD (slice f t rs) i none ≡ getD rs (f + i) none
-getD-slice rs f t i h = getD-drop f (take t rs) i none ∙ getD-take t rs (f + i) none h
+getD-slice : (rs : List Rec) (f t i : ℕ) → f + i < t → getD (slice f t rs) i zeroRec ≡ getD rs (f + i) zeroRec
+getD-slice rs f t i h = getD-drop f (take t rs) i zeroRec ∙ getD-take t rs (f + i) zeroRec h
 
 -- one field of the records from place f up to place t
 pub length-field : (g : Rec → ℕ) (rs : List Rec) (f t : ℕ) → t ≤ length rs → length (map g (slice f t rs)) ≡ t - f
 length-field g rs f t h = length-map (slice f t rs) g ∙ length-slice f t rs h
 
-pub getD-field : (g : Rec → ℕ) (rs : List Rec) (f t i : ℕ) → t ≤ length rs → f + i < t → getD (map g (slice f t rs)) i 0 ≡ g (getD rs (f + i) none)
-getD-field g rs f t i k h = getD-map-in g (slice f t rs) i none 0 (omega (arith, length-slice f t rs k)) ∙ ap g (getD-slice rs f t i h)
+pub getD-field : (g : Rec → ℕ) (rs : List Rec) (f t i : ℕ) → t ≤ length rs → f + i < t → getD (map g (slice f t rs)) i 0 ≡ g (getD rs (f + i) zeroRec)
+getD-field g rs f t i k h = getD-map-in g (slice f t rs) i zeroRec 0 (omega (arith, length-slice f t rs k)) ∙ ap g (getD-slice rs f t i h)
 
 pub getD-offsets : (starts : List ℕ) (i : ℕ) → i < length starts → getD (offsetsOf starts) i 0 ≡ getD starts i 0 + 1
 getD-offsets starts i h = getD-map-in suc starts i 0 0 h ∙ sym (add-one (getD starts i 0))
@@ -254,13 +254,13 @@ offsets-known [] i h = absurd (not-suc-le-zero h)
 offsets-known (s ∷ ss) zero h = rw (eqb-same (suc s)) refl
 offsets-known (s ∷ ss) (suc i) h = rw (offsets-known ss i (le-of-suc-le-suc h)) (or-true (eqb (suc s) (getD (offsetsOf ss) i 0)))
 
-rising-below : (n : ℕ) (starts : List ℕ) → risingBelow n starts ≡ true → AllBelow n starts
+rising-below : (n : ℕ) (starts : List ℕ) → risingBelow n starts ≡ true → NumbersBelow n starts
 rising-below n [] e i h = absurd (not-suc-le-zero h)
 rising-below n (s ∷ ss) e zero h = omega (arith, rising-head n s ss e, end-below n ss (rising-tail n s ss e))
 rising-below n (s ∷ ss) e (suc i) h = rising-below n ss (rising-tail n s ss e) i (le-of-suc-le-suc h)
 
 -- the starts of checked code are below 32768
-pub starts-below : (cls : ℕ → ℕ) (arity : ℕ) (code starts : List ℕ) → checkCode cls arity code starts ≡ Passed → AllBelow 32768 starts
+pub starts-below : (cls : ℕ → ℕ) (arity : ℕ) (code starts : List ℕ) → checkCode cls arity code starts ≡ Passed → NumbersBelow 32768 starts
 starts-below cls arity code starts e i h =
     let k : CodeOk cls arity (recordsOf code) starts = code-ok cls arity code starts e in
     omega (arith, k .size, rising-below (length (recordsOf code)) starts (k .rising) i h)

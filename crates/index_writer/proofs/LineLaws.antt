@@ -6,9 +6,9 @@ use mathlib.Core.Bool.{Bool, true, false, cond}
 use mathlib.Core.List.{List, [], _∷_, _++_}
 use lib.ListN.{length, getD, length-append}
 use Rattle.records.specs.declared.Rec.{Rec}
-use Rattle.records.specs.Records.{rec}
+use Rattle.records.specs.Records.{recOf}
 use Rattle.indexing_iter.specs.declared.Settings.{Settings}
-use Rattle.indexing.specs.Upto.{one, countTo, anyTo, listTo}
+use Rattle.indexing.specs.Upto.{bit, countTo, anyTo, listTo}
 use Rattle.indexing.specs.Lines.{modeOf}
 use Rattle.indexing.specs.Build.{maskedAt}
 use Rattle.indexing.specs.Columns.{member, sizeOf, openMember, deadClauses, tableAt, tablesAt, tagAt, choiceAt, choices, opensLine, linesTo, emptyList, listLines, lineOf, lineAt, groupLines, listLine, newLinesRecs, seedRecs}
@@ -22,7 +22,7 @@ module _ {ℓ} {A : Type ℓ} where
   pub cond-no : (t : Bool) (x y : A) → t ≡ false → cond t x y ≡ y
   cond-no t x y e = rw e
 
-  pub length-one : (t : Bool) (x : A) → length (cond t (x ∷ []) []) ≡ one t
+  pub length-one : (t : Bool) (x : A) → length (cond t (x ∷ []) []) ≡ bit t
   length-one true x = refl
   length-one false x = refl
 
@@ -35,8 +35,8 @@ module _ (leaders opens : List ℕ) (i b : ℕ) where
   pub length-dead : (offs : List ℕ) → length (deadClauses leaders opens offs i b) ≡ countTo (openMember leaders opens [] i b) (length leaders)
   unfolding deadClauses openMember
   length-dead offs =
-      list-count (λ j. cond (openMember leaders opens offs i b j) (rec 7 0 0 (getD offs j 0) 0 ∷ []) []) (openMember leaders opens [] i b)
-      (λ j. length-one (openMember leaders opens offs i b j) (rec 7 0 0 (getD offs j 0) 0)) (length leaders)
+      list-count (λ j. cond (openMember leaders opens offs i b j) (recOf 7 0 0 (getD offs j 0) 0 ∷ []) []) (openMember leaders opens [] i b)
+      (λ j. length-one (openMember leaders opens offs i b j) (recOf 7 0 0 (getD offs j 0) 0)) (length leaders)
 
   module _ (offs : List ℕ) (mask : ℕ) (extensible : Bool) where
     abbrev table : List Rec
@@ -49,7 +49,7 @@ module _ (leaders opens : List ℕ) (i b : ℕ) where
     unfolding tableAt
     table-masked e = rw e
 
-    pub table-dead : maskedAt mask b ≡ false → some ≡ true → extensible ≡ true → table ≡ rec 4 0 b 0 0 ∷ deadClauses leaders opens offs i b
+    pub table-dead : maskedAt mask b ≡ false → some ≡ true → extensible ≡ true → table ≡ recOf 4 0 b 0 0 ∷ deadClauses leaders opens offs i b
     unfolding tableAt openMember
     table-dead e f g = rw (e, f, g)
 
@@ -57,7 +57,7 @@ module _ (leaders opens : List ℕ) (i b : ℕ) where
     unfolding tableAt openMember
     table-none e f g = rw (e, f, g)
 
-    pub table-demand : maskedAt mask b ≡ false → some ≡ false → table ≡ rec 3 0 b 0 0 ∷ []
+    pub table-demand : maskedAt mask b ≡ false → some ≡ false → table ≡ recOf 3 0 b 0 0 ∷ []
     unfolding tableAt openMember
     table-demand e f = rw (e, f)
 
@@ -68,7 +68,7 @@ length-more f i = ap length (list-more f i) ∙ length-append (listTo f i) (f i)
 -- the offsets of the bucket that clause i leads
 module _ (leaders offs tags : List ℕ) (dynamic default : Bool) (i : ℕ) where
   pub choice-yes : (n k j : ℕ) → member leaders i j ≡ true
-      → choiceAt leaders offs tags dynamic default n i k j ≡ rec 6 (tagAt dynamic default (getD tags j 0) n k) 0 (getD offs j 0) 0 ∷ []
+      → choiceAt leaders offs tags dynamic default n i k j ≡ recOf 6 (tagAt dynamic default (getD tags j 0) n k) 0 (getD offs j 0) 0 ∷ []
   unfolding choiceAt
   choice-yes n k j e = rw e
 
@@ -76,9 +76,9 @@ module _ (leaders offs tags : List ℕ) (dynamic default : Bool) (i : ℕ) where
   unfolding choiceAt
   choice-no n k j e = rw e
 
-  length-choice : (n k j : ℕ) → length (choiceAt leaders offs tags dynamic default n i k j) ≡ one (member leaders i j)
+  length-choice : (n k j : ℕ) → length (choiceAt leaders offs tags dynamic default n i k j) ≡ bit (member leaders i j)
   unfolding choiceAt
-  length-choice n k j = length-one (member leaders i j) (rec 6 (tagAt dynamic default (getD tags j 0) n k) 0 (getD offs j 0) 0)
+  length-choice n k j = length-one (member leaders i j) (recOf 6 (tagAt dynamic default (getD tags j 0) n k) 0 (getD offs j 0) 0)
 
   -- the offset of clause j, by the members before it
   abbrev pub choiceOf : ℕ → List Rec
@@ -107,12 +107,12 @@ module _ (leaders opens offs tags : List ℕ) (S : Settings) (arg i : ℕ) where
   length-rest = length-append tablesOf choicesOf ∙ ap (λ (x : ℕ). length tablesOf + x) (length-choices leaders offs tags (S .dynamic) (S .«non_counted») i)
 
   pub line-parts : (heads : List ℕ) (number : ℕ)
-      → ([] ++ (rec 1 (modeOf (S .dynamic)) 0 number 0 ∷ [])) ++ restOf ≡ lineOf leaders heads opens offs tags S arg number i
+      → ([] ++ (recOf 1 (modeOf (S .dynamic)) 0 number 0 ∷ [])) ++ restOf ≡ lineOf leaders heads opens offs tags S arg number i
   unfolding lineOf
   line-parts heads number = refl
 
 pub seed-parts : (zeros opens offs tags : List ℕ) (S : Settings) (arg : ℕ)
-    → (([] ++ (rec 1 (modeOf (S .dynamic)) 0 0 0 ∷ [])) ++ (rec 3 0 arg 0 0 ∷ [])) ++ restOf zeros opens offs tags S arg 0 ≡ seedRecs zeros opens offs tags S arg
+    → (([] ++ (recOf 1 (modeOf (S .dynamic)) 0 0 0 ∷ [])) ++ (recOf 3 0 arg 0 0 ∷ [])) ++ restOf zeros opens offs tags S arg 0 ≡ seedRecs zeros opens offs tags S arg
 unfolding seedRecs
 seed-parts zeros opens offs tags S arg = refl
 

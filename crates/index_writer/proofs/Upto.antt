@@ -9,18 +9,18 @@ use mathlib.Core.Bool.{Bool, true, false}
 use mathlib.Core.List.{List, [], _∷_, _++_}
 use lib.ListN.{length, getD, length-append, List·getD-append}
 use lib.Seq.{getD-at}
-use Rattle.indexing.specs.Upto.{one, countTo, anyTo, listTo}
+use Rattle.indexing.specs.Upto.{bit, countTo, anyTo, listTo}
 
 module _ (t : ℕ → Bool) (j : ℕ) where
-  pub count-step : countTo t (j + 1) ≡ countTo t j + one (t j)
+  pub count-step : countTo t (j + 1) ≡ countTo t j + bit (t j)
   unfolding countTo
   count-step = rw (add-one j)
 
   pub count-more : t j ≡ true → countTo t (j + 1) ≡ countTo t j + 1
-  count-more e = count-step ∙ ap (λ (b : Bool). countTo t j + one b) e
+  count-more e = count-step ∙ ap (λ (b : Bool). countTo t j + bit b) e
 
   pub count-skip : t j ≡ false → countTo t (j + 1) ≡ countTo t j
-  count-skip e = count-step ∙ ap (λ (b : Bool). countTo t j + one b) e ∙ add-zero (countTo t j)
+  count-skip e = count-step ∙ ap (λ (b : Bool). countTo t j + bit b) e ∙ add-zero (countTo t j)
 
   pub any-skip : t j ≡ false → anyTo t j ≡ false → anyTo t (j + 1) ≡ false
   unfolding anyTo
@@ -39,7 +39,7 @@ unfolding countTo
 count-le t zero = omega arith
 count-le t (suc n) = go (t n) (count-le t n)
   where
-    go : (b : Bool) → countTo t n ≤ n → countTo t n + one b ≤ suc n
+    go : (b : Bool) → countTo t n ≤ n → countTo t n + bit b ≤ suc n
     go true h = omega arith
     go false h = omega arith
 
@@ -84,7 +84,7 @@ module _ {ℓ} {A : Type ℓ} (f : ℕ → A) where
       go (no k) q = List·getD-append (listTo (λ i. f i ∷ []) n) (f n ∷ []) d i (omega (arith, length-column n)) ∙ q (omega arith)
 
 -- where each list has one element or none
-pub list-count {ℓ} : {A : Type ℓ} (f : ℕ → List A) (t : ℕ → Bool) → ((i : ℕ) → length (f i) ≡ one (t i))
+pub list-count {ℓ} : {A : Type ℓ} (f : ℕ → List A) (t : ℕ → Bool) → ((i : ℕ) → length (f i) ≡ bit (t i))
     → (n : ℕ) → length (listTo f n) ≡ countTo t n
 unfolding listTo countTo
 list-count f t h zero = refl

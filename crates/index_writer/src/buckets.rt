@@ -6,7 +6,7 @@ ghost use Prim.Native.Nat.{_+_, _*_, _≤_, _<_};
 ghost use lib.ListN.{length};
 ghost use Rattle.records.specs.Records.{recordsOf};
 ghost use Rattle.records.specs.Pointer.{internalWord};
-ghost use Rattle.indexing.specs.Upto.{one, countTo, anyTo};
+ghost use Rattle.indexing.specs.Upto.{bit, countTo, anyTo};
 ghost use Rattle.indexing.specs.Columns.{groupOfHead, sizesTo, needsLine, opensBucket, opensLine, linesTo, emptyList, listLines, entryAt, entries, listEntries, switchRecs};
 ghost use Rattle.index_writer.specs.Writing.{Puts};
 
@@ -73,7 +73,7 @@ pub fn line_step(
 ) -> u32
     requires { ⌜ (i < length (now leaders)) × (length (now heads) ≡ length (now leaders)) ⌝ }
     requires { ⌜ now sizes ≡ sizesTo (now leaders) (length (now leaders)) ⌝ }
-    ensures { λ r. ⌜ (r ≡ one (opensLine (now (leaders .entry)) (now (heads .entry)) dynamic g i)) × (r ≤ 1) ⌝ }
+    ensures { λ r. ⌜ (r ≡ bit (opensLine (now (leaders .entry)) (now (heads .entry)) dynamic g i)) × (r ≤ 1) ⌝ }
 {
     if opens_line(leaders, heads, sizes, dynamic, g, i) {
         1

@@ -12,9 +12,9 @@ ghost use Rattle.indexing_iter.specs.Rows.{headOf};
 ghost use Rattle.indexing_iter.specs.Clauses.{keyOf, known, offsetsOf};
 ghost use Rattle.indexing_iter.specs.declared.Checked.{Checked};
 ghost use Rattle.indexing_iter.specs.Checks.{checkCode};
-ghost use Rattle.indexing.specs.Upto.{one};
+ghost use Rattle.indexing.specs.Upto.{bit};
 ghost use Rattle.indexing.specs.Columns.{wordsOf, sameAt, leaderOf, leadersTo, sizesTo, headsTo, bitsTo, openRow, opensTo};
-ghost use Rattle.index_writer.specs.Choices.{subsOf, AllBelow, AllKnown, openNumbers};
+ghost use Rattle.index_writer.specs.Choices.{subsOf, NumbersBelow, AllKnown, openNumbers};
 ghost use Rattle.indexing.specs.Expanding.{ColumnsOf};
 ghost use Rattle.indexing.specs.Chains.{Chained};
 ghost use Rattle.index_writer.specs.Chains.{bucketOf, bucketAt, leadsIn};
@@ -172,7 +172,7 @@ pub fn zeros(column: &mut [u32])
 // The size of the bucket that each clause leads, 0 where it leads none.
 pub fn count_sizes(leaders: &[u32], sizes: &mut [u32])
     requires { ⌜ (length (now sizes) ≡ length (now leaders)) × (length (now leaders) ≤ 1024) ⌝ }
-    requires { ⌜ AllBelow (length (now leaders)) (now leaders) ⌝ }
+    requires { ⌜ NumbersBelow (length (now leaders)) (now leaders) ⌝ }
     ensures { λ _. ⌜ now (sizes .exit) ≡ sizesTo (now (leaders .entry)) (length (now (leaders .entry))) ⌝ }
 {
     zeros(sizes);
@@ -198,7 +198,7 @@ fn lead_columns(heads: &[u32], bits: &[u64], leaders: &mut [u32], sizes: &mut [u
 // Whether an argument, counted from 0, is one of the n arguments and has head 0.
 fn open_number(heads: &[u32], n: usize, b: usize) -> u8
     requires { ⌜ n ≤ length (now heads) ⌝ }
-    ensures { λ r. ⌜ r ≡ one (cond (ltb b n) (eqb (getD (now (heads .entry)) b 0) 0) false) ⌝ }
+    ensures { λ r. ⌜ r ≡ bit (cond (ltb b n) (eqb (getD (now (heads .entry)) b 0) 0) false) ⌝ }
 {
     if n <= b {
         return 0;
@@ -321,7 +321,7 @@ pub fn read_choices(index: &[u8], q: usize, m: usize, offs: &mut [u32], tags: &m
 // The offsets and tags of a new index's first line: the clauses' own, each with tag Z.
 pub fn start_choices(starts: &[u32], offs: &mut [u32], tags: &mut [u8])
     requires { ⌜ (length (now offs) ≡ length (now starts)) × (length (now tags) ≡ length (now starts)) ⌝ }
-    requires { ⌜ AllBelow 32768 (now starts) ⌝ }
+    requires { ⌜ NumbersBelow 32768 (now starts) ⌝ }
     ensures { λ _. ⌜ now (offs .exit) ≡ offsetsOf (now (starts .entry)) ⌝ }
     ensures { λ _. ⌜ now (tags .exit) ≡ replicate (length (now (starts .entry))) 7 ⌝ }
 {

@@ -7,7 +7,7 @@ ghost use mathlib.Core.Bool.{cond};
 ghost use mathlib.Core.List.{List, [], _∷_};
 ghost use Prim.Native.Nat.{ℕ, _+_, _-_, _*_, _≤_, _<_};
 ghost use lib.ListN.{length, getD};
-ghost use Rattle.records.specs.Records.{rec, recordsOf};
+ghost use Rattle.records.specs.Records.{recOf, recordsOf};
 ghost use Rattle.indexing.specs.Upto.{countTo, anyTo};
 ghost use Rattle.indexing.specs.Columns.{openMember, deadClauses, tableAt, tablesAt, deadRecs};
 ghost use Rattle.index_writer.specs.Writing.{Puts};
@@ -65,8 +65,8 @@ fn count_open(leaders: &[u32], opens: &[u8], i: usize, b: u32) -> usize
 fn put_dead_clause(index: &mut [u8], q: usize, leaders: &[u32], opens: &[u8], offs: &[u32], i: usize, b: u32, j: usize) -> usize
     requires { ⌜ (length (now leaders) ≤ 1024) × (length (now opens) ≡ 32 * length (now leaders)) × (length (now offs) ≡ length (now leaders)) ⌝ }
     requires { ⌜ (1 ≤ b) × (b ≤ 32) × (j < length (now leaders)) ⌝ }
-    requires { ⌜ q + length (cond (openMember (now leaders) (now opens) (now offs) i b j) (rec 7 0 0 (getD (now offs) j 0) 0 ∷ []) []) ≤ length (recordsOf (now index)) ⌝ }
-    ensures { λ r. ⌜ Puts (now (index .entry)) (now (index .exit)) q r (cond (openMember (now (leaders .entry)) (now (opens .entry)) (now (offs .entry)) i b j) (rec 7 0 0 (getD (now (offs .entry)) j 0) 0 ∷ []) []) ⌝ }
+    requires { ⌜ q + length (cond (openMember (now leaders) (now opens) (now offs) i b j) (recOf 7 0 0 (getD (now offs) j 0) 0 ∷ []) []) ≤ length (recordsOf (now index)) ⌝ }
+    ensures { λ r. ⌜ Puts (now (index .entry)) (now (index .exit)) q r (cond (openMember (now (leaders .entry)) (now (opens .entry)) (now (offs .entry)) i b j) (recOf 7 0 0 (getD (now (offs .entry)) j 0) 0 ∷ []) []) ⌝ }
 {
     if open_member(leaders, opens, i, b, j) {
         records::put(
@@ -106,8 +106,8 @@ fn put_dead_clauses(index: &mut [u8], p: usize, leaders: &[u32], opens: &[u8], o
 fn put_dead_table(index: &mut [u8], p: usize, leaders: &[u32], opens: &[u8], offs: &[u32], i: usize, b: u32) -> usize
     requires { ⌜ (length (now leaders) ≤ 1024) × (length (now opens) ≡ 32 * length (now leaders)) × (length (now offs) ≡ length (now leaders)) ⌝ }
     requires { ⌜ (1 ≤ b) × (b ≤ 32) ⌝ }
-    requires { ⌜ p + length (rec 4 0 b 0 0 ∷ deadClauses (now leaders) (now opens) (now offs) i b) ≤ length (recordsOf (now index)) ⌝ }
-    ensures { λ r. ⌜ Puts (now (index .entry)) (now (index .exit)) p r (rec 4 0 b 0 0 ∷ deadClauses (now (leaders .entry)) (now (opens .entry)) (now (offs .entry)) i b) ⌝ }
+    requires { ⌜ p + length (recOf 4 0 b 0 0 ∷ deadClauses (now leaders) (now opens) (now offs) i b) ≤ length (recordsOf (now index)) ⌝ }
+    ensures { λ r. ⌜ Puts (now (index .entry)) (now (index .exit)) p r (recOf 4 0 b 0 0 ∷ deadClauses (now (leaders .entry)) (now (opens .entry)) (now (offs .entry)) i b) ⌝ }
 {
     records::put(
         index,

@@ -10,7 +10,7 @@ use mathlib.Core.Option.{Option, none, some}
 use lib.Dec.{eqb}
 use lib.ListN.{length, getD}
 use Rattle.records.specs.declared.Rec.{Rec}
-use Rattle.records.specs.Records.{rec}
+use Rattle.records.specs.Records.{recOf}
 use Rattle.indexing_iter.specs.Keys.{sortOf, arityOf, bitsOf, groupOf}
 use Rattle.indexing_iter.specs.declared.OptArgIndexKey.{OptArgIndexKey as Key}
 use Rattle.indexing_iter.specs.declared.OptArgIndexKey.the-variants.{List as ListKey}
@@ -62,7 +62,7 @@ module _ (P : Program) (a : ℕ) (cs : List Choice) (ranged : (i : ℕ) → i < 
             head-arity (key P a cs i) (ranged i h),
             lone-is P a cs ranged i h (opens-leads (leaders P a cs) (heads P a cs) g i e),
           )
-          (ap (λ (w : ℕ). rec 5 (sortOf (key P a cs i)) (arityOf (key P a cs i)) w (bitsOf (key P a cs i)) ∷ []) (to (needsLine (leaders P a cs) (P .dynamic) i)))
+          (ap (λ (w : ℕ). recOf 5 (sortOf (key P a cs i)) (arityOf (key P a cs i)) w (bitsOf (key P a cs i)) ∷ []) (to (needsLine (leaders P a cs) (P .dynamic) i)))
       go false e = refl
 
   -- the entry of clause i, if it opens a bucket of group g, d the distance of the group's first line
@@ -103,15 +103,15 @@ module _ (P : Program) (a : ℕ) (cs : List Choice) (ranged : (i : ℕ) → i < 
       where
         go : (b : Bool) → emptyList (leaders P a cs) (heads P a cs) (P .dynamic) ≡ b
             → map entryRec (entriesFor P a cs d (cond b (ListKey ∷ []) (keysTo P a cs 2 (clauses P a cs))))
-            ≡ cond b (rec 5 5 0 (2147483648 + d) 0 ∷ []) (entries (leaders P a cs) (heads P a cs) (bits P a cs) (offs cs) (P .dynamic) 2 d)
-        go true e = ap (λ (x : Option ℕ). rec 5 5 0 (word (pointer x d)) 0 ∷ []) (empty-lone P a cs ranged keyed e (offs (bucketOf P a cs ListKey)))
+            ≡ cond b (recOf 5 5 0 (2147483648 + d) 0 ∷ []) (entries (leaders P a cs) (heads P a cs) (bits P a cs) (offs cs) (P .dynamic) 2 d)
+        go true e = ap (λ (x : Option ℕ). recOf 5 5 0 (word (pointer x d)) 0 ∷ []) (empty-lone P a cs ranged keyed e (offs (bucketOf P a cs ListKey)))
         go false e = keys-entries 2 d
 
     -- the switch's records by columns are those of the switch of specs/Expand
     pub bridge-entries : (d : ℕ)
         → switchRecs (leaders P a cs) (heads P a cs) (bits P a cs) (offs cs) (P .dynamic) a d ≡ tableRecs (switch a (newEntries P a cs d))
     unfolding switchRecs
-    bridge-entries d = ap (λ (rs : List Rec). rec 2 0 a 0 0 ∷ rs) (sym (made ∙ placed))
+    bridge-entries d = ap (λ (rs : List Rec). recOf 2 0 a 0 0 ∷ rs) (sym (made ∙ placed))
       where
         atStr : ℕ
         atStr = d + length (linesFor P a cs (lists P a (offs cs)))

@@ -10,7 +10,7 @@ use native.Mathlib.Omega.{arith}
 use lib.ListN.{length, getD, take, drop, length-append}
 use lib.Seq.{slice, take-at, take-take, drop-append-add, take-length}
 use Rattle.records.specs.declared.Rec.{Rec}
-use Rattle.records.specs.Records.{rec}
+use Rattle.records.specs.Records.{recOf}
 use Rattle.records.specs.Moves.{spliced}
 use Rattle.indexing_iter.specs.declared.OptArgIndexKey.{OptArgIndexKey as Key}
 use Rattle.indexing_iter.specs.declared.Settings.{Settings}
@@ -144,7 +144,7 @@ module _ (S : Settings) (K : ℕ → ℕ → Key) (idx : Index) (l a c : ℕ) (h
           (block-is S K (lineAt idx l .choices) a small first last ranged (length idx - l - 1) ∙ ap (blockRecs S K os a) d)
           (more-is S K (lineAt idx l .choices) a small first last ranged tags own (length idx))
 
-    size-old : size idx ≡ length (before mode idx l a ++ (rec 3 0 c 0 0 ∷ behind mode idx l a))
+    size-old : size idx ≡ length (before mode idx l a ++ (recOf 3 0 c 0 0 ∷ behind mode idx l a))
     size-old = sym (length-records mode 0 idx) ∙ ap length (records-old P mode idx l a c h dem)
 
     -- how many records and lines there are then
@@ -152,7 +152,7 @@ module _ (S : Settings) (K : ℕ → ℕ → Key) (idx : Index) (l a c : ℕ) (h
     expand-size = omega (
       arith,
       size-old,
-      length-append (before mode idx l a) (rec 3 0 c 0 0 ∷ behind mode idx l a),
+      length-append (before mode idx l a) (recOf 3 0 c 0 0 ∷ behind mode idx l a),
       length-records mode 0 (expand P idx l a),
       ap length expanded-is,
       length-append (before mode idx l a) (block ++ (behind mode idx l a ++ more)),
@@ -169,14 +169,14 @@ module _ (S : Settings) (K : ℕ → ℕ → Key) (idx : Index) (l a c : ℕ) (h
         ≡ take place (records mode 0 idx) ++ (block ++ (slice (place + 1) (size idx) (records mode 0 idx) ++ more))
     expand-records =
         expanded-is
-        ∙ replaced (before mode idx l a) (behind mode idx l a) (rec 3 0 c 0 0) block more (size idx) size-old
+        ∙ replaced (before mode idx l a) (behind mode idx l a) (recOf 3 0 c 0 0) block more (size idx) size-old
         ∙ ap (λ (rs : List Rec). take place rs ++ (block ++ (slice (place + 1) (size idx) rs ++ more))) (sym (records-old P mode idx l a c h dem))
 
     -- the same in a list of records that begins with the index
     pub expand-spliced : (rs : List Rec) → take (size idx) rs ≡ records mode 0 idx
         → spliced rs place (size idx) block more ≡ records mode 0 (expand P idx l a) ++ drop (size (expand P idx l a)) rs
     expand-spliced rs e =
-        splices (before mode idx l a) (behind mode idx l a) (rec 3 0 c 0 0) block more rs (size idx) size-old (e ∙ records-old P mode idx l a c h dem)
+        splices (before mode idx l a) (behind mode idx l a) (recOf 3 0 c 0 0) block more rs (size idx) size-old (e ∙ records-old P mode idx l a c h dem)
         ∙ ap (λ (x : List Rec). x ++ drop (length x) rs) (sym expanded-is)
         ∙ ap (λ (n : ℕ). records mode 0 (expand P idx l a) ++ drop n rs) (length-records mode 0 (expand P idx l a))
 

@@ -24,7 +24,7 @@ use Rattle.indexing.specs.Build.{Program, single, consLine, openAt, newL
 use Rattle.indexing.specs.Columns.{groupOfHead, member, leads, sizeOf, needsLine, opensBucket, opensLine, linesTo, emptyList, listLines}
 use Rattle.indexing.specs.Lines.{Choice, Line, offs}
 use Rattle.indexing.specs.Lists.{keep, distinct}
-use Rattle.indexing.specs.Upto.{one, countTo, anyTo, listTo}
+use Rattle.indexing.specs.Upto.{bit, countTo, anyTo, listTo}
 
 -- ---- choices and their offsets
 
@@ -205,16 +205,16 @@ module _ (P : Program) (a : ℕ) (cs : List Choice) where
     -- ---- lines by groups
 
     line-turn : (g m : ℕ) → m < clauses
-        → length (linesFor P a cs (cond (opensBucket leaders heads g m) (key m ∷ []) [])) ≡ one (opensLine leaders heads (P .dynamic) g m)
+        → length (linesFor P a cs (cond (opensBucket leaders heads g m) (key m ∷ []) [])) ≡ bit (opensLine leaders heads (P .dynamic) g m)
     unfolding opensLine
     line-turn g m h = go (opensBucket leaders heads g m) refl
       where
-        made : (b : Bool) → length (consLine (cond b none (some (getD (offs cs) m 0))) (newLine P a (bucketOf P a cs (key m))) []) ≡ one b
+        made : (b : Bool) → length (consLine (cond b none (some (getD (offs cs) m 0))) (newLine P a (bucketOf P a cs (key m))) []) ≡ bit b
         made true = refl
         made false = refl
 
         go : (b : Bool) → opensBucket leaders heads g m ≡ b
-            → length (linesFor P a cs (cond b (key m ∷ []) [])) ≡ one (cond b (needsLine leaders (P .dynamic) m) false)
+            → length (linesFor P a cs (cond b (key m ∷ []) [])) ≡ bit (cond b (needsLine leaders (P .dynamic) m) false)
         go true e = rw (lone-is m h (opens-leads leaders heads g m e)) (made (needsLine leaders (P .dynamic) m))
         go false e = refl
 

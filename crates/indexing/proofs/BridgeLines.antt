@@ -10,12 +10,12 @@ use native.Mathlib.Omega.{arith}
 use lib.Dec.{eqb}
 use lib.ListN.{length, getD, replicate, length-replicate, getD-replicate}
 use Rattle.records.specs.declared.Rec.{Rec}
-use Rattle.records.specs.Records.{rec}
+use Rattle.records.specs.Records.{recOf}
 use Rattle.indexing_iter.specs.declared.OptArgIndexKey.{OptArgIndexKey as Key}
 use Rattle.indexing_iter.specs.declared.OptArgIndexKey.the-variants.{List as ListKey}
 use Rattle.indexing_iter.specs.declared.Settings.{Settings}
 use Rattle.indexing_iter.specs.Keys.{groupOf, same}
-use Rattle.indexing.specs.Upto.{one, countTo, anyTo, listTo}
+use Rattle.indexing.specs.Upto.{bit, countTo, anyTo, listTo}
 use Rattle.indexing.specs.Columns.{groupOfHead, member, leads, sizeOf, needsLine, opensBucket, opensLine, linesTo, emptyList, listLines, openMember}
 use Rattle.indexing.specs.Columns.{tablesAt, tagAt, choiceAt, choices, lineOf, lineAt, groupLines, listLine, newLinesRecs, seedRecs, deadRecs}
 use Rattle.indexing.specs.Expanding.{opensOf}
@@ -48,13 +48,13 @@ module _ {A B : Type 0} where
   list-numbered f d k t [] = refl
   list-numbered f d k t (x ∷ xs) =
       let s : ℕ → Bool = λ j. t (suc j) in
-      let next : (j : ℕ) → k + countTo t (suc j) ≡ k + one (t 0) + countTo s j = λ j. omega (arith, count-first t j) in
+      let next : (j : ℕ) → k + countTo t (suc j) ≡ k + bit (t 0) + countTo s j = λ j. omega (arith, count-first t j) in
       list-first (λ j. cond (t j) (f (k + countTo t j) (getD (x ∷ xs) j d) ∷ []) []) (length xs)
       ∙ ap (λ (r : List B). cond (t 0) (f (k + 0) x ∷ []) [] ++ r)
-        (list-cong _ _ (length xs) (λ j h. ap (λ (n : ℕ). cond (s j) (f n (getD xs j d) ∷ []) []) (next j)) ∙ list-numbered f d (k + one (t 0)) s xs)
+        (list-cong _ _ (length xs) (λ j h. ap (λ (n : ℕ). cond (s j) (f n (getD xs j d) ∷ []) []) (next j)) ∙ list-numbered f d (k + bit (t 0)) s xs)
       ∙ go (t 0) (chosen s xs)
     where
-      go : (b : Bool) (r : List A) → cond b (f (k + 0) x ∷ []) [] ++ numbered f (k + one b) r ≡ numbered f k (add b x r)
+      go : (b : Bool) (r : List A) → cond b (f (k + 0) x ∷ []) [] ++ numbered f (k + bit b) r ≡ numbered f k (add b x r)
       go true r =
           let e : k + 0 ≡ k = omega arith in
           rw (e, add-one k)
@@ -95,7 +95,7 @@ tag-own false default n k f = refl
 
 -- the record of a choice as number k of n
 abbrev tagged : Bool → Bool → ℕ → ℕ → Choice → Rec
-tagged dynamic default n k c = rec 6 (tagAt dynamic default (c .tag) n k) 0 (c .offset) 0
+tagged dynamic default n k c = recOf 6 (tagAt dynamic default (c .tag) n k) 0 (c .offset) 0
 
 tagged-dynamic : (default : Bool) (n k : ℕ) (cs : List Choice) → numbered (tagged true default n) k cs ≡ map choiceRec cs
 unfolding tagAt
@@ -111,12 +111,12 @@ tagged-rest P n k (c ∷ []) p q =
     rw (eqb-other {m = k} {n = 0} (λ z. omega arith), e, eqb-same n)
 tagged-rest P n k (c ∷ (d ∷ ds)) p q =
     rw (eqb-other {m = k} {n = 0} (λ z. omega arith), eqb-other {m = k + 1} {n = n} (λ z. omega arith))
-    (ap (λ (r : List Rec). rec 6 (cond (P .nonCounted) 3 2) 0 (c .offset) 0 ∷ r) (tagged-rest P n (suc k) (d ∷ ds) (omega arith) (omega arith)))
+    (ap (λ (r : List Rec). recOf 6 (cond (P .nonCounted) 3 2) 0 (c .offset) 0 ∷ r) (tagged-rest P n (suc k) (d ∷ ds) (omega arith) (omega arith)))
 
 tagged-static : (P : Program) (n : ℕ) (cs : List Choice) → length cs ≡ n → numbered (tagged false (P .nonCounted) n) 0 cs ≡ map choiceRec (tagStatic P cs)
 unfolding tagAt
 tagged-static P n [] h = refl
-tagged-static P n (c ∷ cs) h = ap (λ (r : List Rec). rec 6 1 0 (c .offset) 0 ∷ r) (tagged-rest P n 1 cs (omega arith) (omega arith))
+tagged-static P n (c ∷ cs) h = ap (λ (r : List Rec). recOf 6 1 0 (c .offset) 0 ∷ r) (tagged-rest P n 1 cs (omega arith) (omega arith))
 
 tagged-all : (P : Program) (n : ℕ) (cs : List Choice) → length cs ≡ n → numbered (tagged (P .dynamic) (P .nonCounted) n) 0 cs ≡ map choiceRec (retag P cs)
 tagged-all P n cs e = go (P .dynamic)
@@ -212,7 +212,7 @@ module _ (S : Settings) (K : ℕ → ℕ → Key) (small : S .arity ≤ 32) (zer
   pub dead-all : (a : ℕ) → 1 ≤ a → a ≤ S .arity → deadRecs zeros (opensOf S K os) os a ≡ tableRecs (dead a (openAt (programBy S K) a os))
   unfolding deadRecs
   dead-all a p q =
-      ap (λ (r : List Rec). rec 4 0 a 0 0 ∷ r) (
+      ap (λ (r : List Rec). recOf 4 0 a 0 0 ∷ r) (
         dead-clauses S K os zeros small (Z .whole) 0 a p q
         ∙ ap (λ (r : List ℕ). map deadRec (openAt (programBy S K) a r)) (all-members zeros os Z os refl))
 

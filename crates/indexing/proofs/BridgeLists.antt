@@ -11,15 +11,15 @@ use lib.ListN.{length, getD, length-append, List·getD-append}
 use lib.Seq.{getD-at, ext-getD}
 use Rattle.indexing.proofs.Lists.{any-append}
 use Rattle.indexing.proofs.Tests.{or-true, bool-absurd}
-use Rattle.indexing.specs.Lists.{add, keep, any, distinct}
-use Rattle.indexing.specs.Upto.{one, countTo, anyTo, listTo}
+use Rattle.indexing.specs.Lists.{add, keep, anyOf, distinct}
+use Rattle.indexing.specs.Upto.{bit, countTo, anyTo, listTo}
 
 -- ---- numbers that pass a test
 
 pub count-cong : (t u : ℕ → Bool) (n : ℕ) → ((i : ℕ) → i < n → t i ≡ u i) → countTo t n ≡ countTo u n
 unfolding countTo
 count-cong t u zero h = refl
-count-cong t u (suc n) h = ap₂ (λ (x : ℕ) (y : Bool). x + one y) (count-cong t u n (λ i k. h i (omega arith))) (h n (omega arith))
+count-cong t u (suc n) h = ap₂ (λ (x : ℕ) (y : Bool). x + bit y) (count-cong t u n (λ i k. h i (omega arith))) (h n (omega arith))
 
 pub any-cong : (t u : ℕ → Bool) (n : ℕ) → ((i : ℕ) → i < n → t i ≡ u i) → anyTo t n ≡ anyTo u n
 unfolding anyTo
@@ -49,7 +49,7 @@ unfolding anyTo countTo
 any-count t zero e = refl
 any-count t (suc n) e = go (t n) e (any-count t n)
   where
-    go : (b : Bool) → cond b true (anyTo t n) ≡ false → (anyTo t n ≡ false → countTo t n ≡ 0) → countTo t n + one b ≡ 0
+    go : (b : Bool) → cond b true (anyTo t n) ≡ false → (anyTo t n ≡ false → countTo t n ≡ 0) → countTo t n + bit b ≡ 0
     go true e ih = bool-absurd refl e
     go false e ih = omega (arith, ih e)
 
@@ -58,7 +58,7 @@ unfolding anyTo countTo
 count-any t zero e = bool-absurd e refl
 count-any t (suc n) e = go (t n) e (count-any t n)
   where
-    go : (b : Bool) → cond b true (anyTo t n) ≡ true → (anyTo t n ≡ true → 1 ≤ countTo t n) → 1 ≤ countTo t n + one b
+    go : (b : Bool) → cond b true (anyTo t n) ≡ true → (anyTo t n ≡ true → 1 ≤ countTo t n) → 1 ≤ countTo t n + bit b
     go true e ih = omega arith
     go false e ih = omega (arith, ih e)
 
@@ -97,7 +97,7 @@ module _ {A : Type 0} where
   length-some t f (suc n) = go (t n) (length-some t f n)
     where
       go : (b : Bool) → length (listTo (λ i. cond (t i) (f i ∷ []) []) n) ≡ countTo t n
-          → length (listTo (λ i. cond (t i) (f i ∷ []) []) n ++ cond b (f n ∷ []) []) ≡ countTo t n + one b
+          → length (listTo (λ i. cond (t i) (f i ∷ []) []) n ++ cond b (f n ∷ []) []) ≡ countTo t n + bit b
       go true ih = omega (arith, length-append (listTo (λ i. cond (t i) (f i ∷ []) []) n) (f n ∷ []))
       go false ih = omega (arith, length-append (listTo (λ i. cond (t i) (f i ∷ []) []) n) [])
 
@@ -185,7 +185,7 @@ module _ {A : Type 0} where
 -- ---- distinct elements
 
 module _ {A : Type 0} where
-  pub any-each : (t : A → Bool) (f : ℕ → A) (n : ℕ) → any t (listTo (λ i. f i ∷ []) n) ≡ anyTo (λ i. t (f i)) n
+  pub any-each : (t : A → Bool) (f : ℕ → A) (n : ℕ) → anyOf t (listTo (λ i. f i ∷ []) n) ≡ anyTo (λ i. t (f i)) n
   unfolding listTo anyTo
   any-each t f zero = refl
   any-each t f (suc n) = any-append t (listTo (λ i. f i ∷ []) n) (f n ∷ []) ∙ go (t (f n)) (any-each t f n)
@@ -194,20 +194,20 @@ module _ {A : Type 0} where
       last true = refl
       last false = refl
 
-      go : (b : Bool) → any t (listTo (λ i. f i ∷ []) n) ≡ anyTo (λ i. t (f i)) n
-          → any t (listTo (λ i. f i ∷ []) n) || (b || false) ≡ cond b true (anyTo (λ i. t (f i)) n)
-      go true ih = or-true (any t (listTo (λ i. f i ∷ []) n))
-      go false ih = last (any t (listTo (λ i. f i ∷ []) n)) ∙ ih
+      go : (b : Bool) → anyOf t (listTo (λ i. f i ∷ []) n) ≡ anyTo (λ i. t (f i)) n
+          → anyOf t (listTo (λ i. f i ∷ []) n) || (b || false) ≡ cond b true (anyTo (λ i. t (f i)) n)
+      go true ih = or-true (anyOf t (listTo (λ i. f i ∷ []) n))
+      go false ih = last (anyOf t (listTo (λ i. f i ∷ []) n)) ∙ ih
 
   module _ (same : A → A → Bool) where
     -- one more element: it is new, or an earlier one is the same
-    pub distinct-snoc : (xs : List A) (k : A) → distinct same (xs ++ (k ∷ [])) ≡ distinct same xs ++ cond (any (λ y. same y k) xs) [] (k ∷ [])
+    pub distinct-snoc : (xs : List A) (k : A) → distinct same (xs ++ (k ∷ [])) ≡ distinct same xs ++ cond (anyOf (λ y. same y k) xs) [] (k ∷ [])
     distinct-snoc [] k = refl
     distinct-snoc (x ∷ xs) k =
         ap (λ (l : List A). x ∷ l)
         (ap (keep (λ y. not (same x y))) (distinct-snoc xs k)
-        ∙ keep-append (λ y. not (same x y)) (distinct same xs) (cond (any (λ y. same y k) xs) [] (k ∷ []))
-        ∙ ap (λ (l : List A). keep (λ y. not (same x y)) (distinct same xs) ++ l) (go (any (λ y. same y k) xs) (same x k) refl))
+        ∙ keep-append (λ y. not (same x y)) (distinct same xs) (cond (anyOf (λ y. same y k) xs) [] (k ∷ []))
+        ∙ ap (λ (l : List A). keep (λ y. not (same x y)) (distinct same xs) ++ l) (go (anyOf (λ y. same y k) xs) (same x k) refl))
       where
         go : (b c : Bool) → same x k ≡ c → keep (λ y. not (same x y)) (cond b [] (k ∷ [])) ≡ cond (c || b) [] (k ∷ [])
         go true c e = rw (or-true c)

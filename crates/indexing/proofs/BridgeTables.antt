@@ -12,11 +12,11 @@ use lib.Dec.{eqb, ltb, lt→ltb}
 use lib.ListN.{length, getD, length-append, List·getD-append}
 use lib.Seq.{getD-append-add}
 use Rattle.records.specs.declared.Rec.{Rec}
-use Rattle.records.specs.Records.{rec}
+use Rattle.records.specs.Records.{recOf}
 use Rattle.indexing_iter.specs.declared.OptArgIndexKey.{OptArgIndexKey as Key}
 use Rattle.indexing_iter.specs.declared.Settings.{Settings}
 use Rattle.indexing_iter.specs.Keys.{isOpen}
-use Rattle.indexing.specs.Upto.{one, countTo, anyTo, listTo}
+use Rattle.indexing.specs.Upto.{bit, countTo, anyTo, listTo}
 use Rattle.indexing.specs.Columns.{openRow, opensTo, member, openMember, deadClauses, tableAt, tablesAt}
 use Rattle.indexing.specs.Expanding.{opensOf}
 use Rattle.indexing.specs.Lists.{add, keep}
@@ -48,7 +48,7 @@ any-first t (suc n) = ap (cond (t (suc n)) true) (any-first t n) ∙ go (t (suc 
     go true false z = refl
     go false y z = refl
 
-pub count-first : (t : ℕ → Bool) (n : ℕ) → countTo t (suc n) ≡ one (t 0) + countTo (λ j. t (suc j)) n
+pub count-first : (t : ℕ → Bool) (n : ℕ) → countTo t (suc n) ≡ bit (t 0) + countTo (λ j. t (suc j)) n
 unfolding countTo
 count-first t zero = omega arith
 count-first t (suc n) = omega (arith, count-first t n)
@@ -75,7 +75,7 @@ module _ {A : Type 0} (d : A) where
           rw (at, getD-append-add (listTo f n) (f n) b d, e)
       go (no r) ih = List·getD-append (listTo f n) (f n) d (32 * j + b) (omega (arith, length-rows f h n)) ∙ ih (omega arith)
 
-one-is : (b : Bool) → eqb (one b) 1 ≡ b
+one-is : (b : Bool) → eqb (bit b) 1 ≡ b
 one-is true = refl
 one-is false = refl
 
@@ -84,7 +84,7 @@ pub opens-at : (K : ℕ → ℕ → Key) (arity : ℕ) (os : List ℕ) (n j b : 
     → eqb (getD (opensTo K arity os n) (32 * j + (b - 1)) 0) 1 ≡ isOpen (K (getD os j 0) b)
 unfolding opensTo openRow
 opens-at K arity os n j b h p q r =
-    let f : ℕ → ℕ → ℕ = λ j b. one (cond (ltb b arity) (isOpen (K (getD os j 0) (b + 1))) false) in
+    let f : ℕ → ℕ → ℕ = λ j b. bit (cond (ltb b arity) (isOpen (K (getD os j 0) (b + 1))) false) in
     let inside : ltb (b - 1) arity ≡ true = T-true (ltb (b - 1) arity) (lt→ltb (b - 1) arity (omega arith)) in
     let back : b - 1 + 1 ≡ b = omega arith in
     ap (λ (x : ℕ). eqb x 1) (
@@ -120,7 +120,7 @@ module _ {A : Type 0} where
   length-chosen t (x ∷ xs) = go (t 0) (length-chosen (λ j. t (suc j)) xs) ∙ sym (count-first t (length xs))
     where
       go : (b : Bool) → length (chosen (λ j. t (suc j)) xs) ≡ countTo (λ j. t (suc j)) (length xs)
-          → length (add b x (chosen (λ j. t (suc j)) xs)) ≡ one b + countTo (λ j. t (suc j)) (length xs)
+          → length (add b x (chosen (λ j. t (suc j)) xs)) ≡ bit b + countTo (λ j. t (suc j)) (length xs)
       go true ih = omega arith
       go false ih = omega arith
 
@@ -184,7 +184,7 @@ module _ (S : Settings) (K : ℕ → ℕ → Key) (os leaders : List ℕ) (small
   pub dead-clauses : (b : ℕ) → 1 ≤ b → b ≤ S .arity → deadClauses leaders (opensOf S K os) os i b ≡ map deadRec (openAt (programBy S K) b clauses)
   unfolding deadClauses
   dead-clauses b p q =
-      ap (listTo (λ j. cond (openMember leaders (opensOf S K os) os i b j) (rec 7 0 0 (getD os j 0) 0 ∷ []) [])) whole
+      ap (listTo (λ j. cond (openMember leaders (opensOf S K os) os i b j) (recOf 7 0 0 (getD os j 0) 0 ∷ []) [])) whole
       ∙ list-cong _ _ (length os) (λ j h. ap (λ (x : Bool). cond x (deadRec (getD os j 0) ∷ []) []) (open-member b j p q h))
       ∙ list-chosen (openHere b) 0 deadRec (member leaders i) os
 
@@ -200,7 +200,7 @@ module _ (S : Settings) (K : ℕ → ℕ → Key) (os leaders : List ℕ) (small
 
   -- the table's records, by whether it is masked, whether a clause is open there, and the dead clauses
   abbrev tableBy : ℕ → Bool → Bool → List Rec → List Rec
-  tableBy b masked opened deads = cond masked [] (cond opened (cond (S .extensible) (rec 4 0 b 0 0 ∷ deads) []) (rec 3 0 b 0 0 ∷ []))
+  tableBy b masked opened deads = cond masked [] (cond opened (cond (S .extensible) (recOf 4 0 b 0 0 ∷ deads) []) (recOf 3 0 b 0 0 ∷ []))
 
   -- one argument's table
   table-at : (b : ℕ) → 1 ≤ b → b ≤ S .arity
@@ -211,8 +211,8 @@ module _ (S : Settings) (K : ℕ → ℕ → Key) (os leaders : List ℕ) (small
       ∙ masks (maskedAt (S .mask) b) (openAt (programBy S K) b clauses)
     where
       extends : (e : Bool) (o : ℕ) (r : List ℕ)
-          → cond e (rec 4 0 b 0 0 ∷ map deadRec (o ∷ r)) [] ≡ tablesRecs (consOpt (cond e (some (dead b (o ∷ r))) none) [])
-      extends true o r = ap (λ (x : List Rec). rec 4 0 b 0 0 ∷ x) (sym (append-nil (map deadRec (o ∷ r))))
+          → cond e (recOf 4 0 b 0 0 ∷ map deadRec (o ∷ r)) [] ≡ tablesRecs (consOpt (cond e (some (dead b (o ∷ r))) none) [])
+      extends true o r = ap (λ (x : List Rec). recOf 4 0 b 0 0 ∷ x) (sym (append-nil (map deadRec (o ∷ r))))
       extends false o r = refl
 
       opened : (r : List ℕ) → tableBy b false (occupied r) (map deadRec r) ≡ tablesRecs (consOpt (newTable (programBy S K) b r) [])

@@ -3,12 +3,12 @@
 -- Assumes nothing.
 use mathlib.Core.Path.{_≡_, refl}
 use Prim.Native.Nat.{ℕ, _-_, _*_}
-use mathlib.Core.Bool.{Bool, true, false, _&&_}
+use mathlib.Core.Bool.{Bool, true, false, cond, not, _&&_}
 use mathlib.Core.List.{List, [], _∷_, _++_}
 use lib.Dec.{T, eqb}
 use lib.ListN.{length, replicate}
 use Rattle.records.specs.declared.Rec.{Rec}
-use Rattle.records.specs.Records.{rec, decode, encodeRec, encode, recs, recordsOf}
+use Rattle.records.specs.Records.{recOf, decode, encodeRec, encode, recs, recordsOf}
 use Rattle.indexing_iter.specs.declared.OptArgIndexKey.the-variants.{None, Literal, Structure, List as ListKey}
 use Rattle.indexing_iter.specs.declared.Settings.{Settings}
 use Rattle.indexing_iter.specs.Classes.{classOf, argOfClass}
@@ -19,7 +19,7 @@ use Rattle.indexing.proofs.Sample.{Clause, clause, offsetsOf, program, 
 use Rattle.indexing.proofs.Sample.{offset, deadClause, listing, constant, body, settings, plain, alike, fields, all}
 use Rattle.indexing.specs.Lines.{Choice, onDemand, Index, modeOf, records}
 use Rattle.indexing.specs.Build.{Program}
-use Rattle.indexing.specs.Expand.{expand, seed, build}
+use Rattle.indexing.specs.Expand.{expand, seed, build, attempt}
 use Rattle.indexing.specs.Builder.{Built, capacityOf, stored, indexOf, buildCall}
 
 -- ---- an example: an index, the tables (line, argument) expanded one after the other, and the records then
@@ -144,7 +144,7 @@ answers r b =
     && alike (b .index) (encode (r .expected) ++ replicate (r .bytes - 16 * length (r .expected)) 9)))
 
 abbrev code : List ℕ
-code = encode (constant 1 7 ∷ constant 2 1 ∷ body ∷ constant 1 8 ∷ rec 17 0 0 2 0 ∷ body ∷ constant 1 7 ∷ constant 2 2 ∷ body ∷ [])
+code = encode (constant 1 7 ∷ constant 2 1 ∷ body ∷ constant 1 8 ∷ recOf 17 0 0 2 0 ∷ body ∷ constant 1 7 ∷ constant 2 2 ∷ body ∷ [])
 
 abbrev gives : Call → Bool
 gives r = answers r (buildCall classOf code (0 ∷ 3 ∷ 6 ∷ []) (r .given) (r .chosen) (replicate (r .bytes) 9))
@@ -173,7 +173,21 @@ calls =
     ∷ call (plain 2) 3 208 2 0 []
     ∷ call (plain 3) 3 0 8 0 [] ∷ []
 
+-- ---- an expansion to dead, seven records: with room for them it is stored, with room for six the index stays
+
+abbrev before : Index
+before = seed (static 2 opens) 2 (offsetsOf opens)
+
+abbrev after : Index
+after = expand (static 2 opens) before 0 2
+
+abbrev tries : ℕ → Bool → Index → Bool
+tries capacity stores left =
+    cond (attempt capacity before after .storing) stores (not stores)
+    && alike (fields (records 0 0 (attempt capacity before after .index))) (fields (records 0 0 left))
+
 -- and the capacity is at most 65,535, for a buffer too long to be written out
-pub listed : T (all holds examples) × (T (all gives calls) × ((buffer : List ℕ) → length buffer ≡ 16 * 65536 → capacityOf buffer ≡ 65535))
+pub listed : T (all holds examples) × T (all gives calls) × T (tries 7 true after && tries 6 false before)
+    × ((buffer : List ℕ) → length buffer ≡ 16 * 65536 → capacityOf buffer ≡ 65535)
 unfolding decode encodeRec encode recs recordsOf classOf argOfClass keyIn clausesOf clauseAt keyOf risingBelow hasBody recordBad checkRecords checkClause checkClauses openSomewhere checkClausesOf checkBuild expand seed build stored indexOf buildCall
-listed = (tt, (tt, λ b e. rw e refl))
+listed = (tt, tt, tt, λ b e. rw e refl)

@@ -7,7 +7,7 @@ use Prim.Native.Nat.{ℕ, zero, suc, _<_}
 use native.Mathlib.Omega.{arith}
 use lib.ListN.{length, getD, set}
 use Rattle.indexing.proofs.Tests.{and-true, both}
-use Rattle.indexing.specs.Lists.{add, keep, any, every, distinct}
+use Rattle.indexing.specs.Lists.{add, keep, anyOf, every, distinct}
 
 -- ---- a property of all elements
 
@@ -74,18 +74,18 @@ module _ {A : Type 0} where
       go false s = Sublistᴰ·cons s
 
   -- a test passes among the elements kept as it does among all, if it fails at each one left out
-  pub any-keep : (t p : A → Bool) (xs : List A) → ((x : A) → p x ≡ false → t x ≡ false) → any t (keep p xs) ≡ any t xs
+  pub any-keep : (t p : A → Bool) (xs : List A) → ((x : A) → p x ≡ false → t x ≡ false) → anyOf t (keep p xs) ≡ anyOf t xs
   any-keep t p [] f = refl
   any-keep t p (x ∷ xs) f = go (p x) refl (any-keep t p xs f)
     where
-      go : (b : Bool) → p x ≡ b → any t (keep p xs) ≡ any t xs → any t (add b x (keep p xs)) ≡ t x || any t xs
+      go : (b : Bool) → p x ≡ b → anyOf t (keep p xs) ≡ anyOf t xs → anyOf t (add b x (keep p xs)) ≡ t x || anyOf t xs
       go true e ih = rw ih
       go false e ih = rw (f x e) ih
 
-  pub any-append : (t : A → Bool) (xs ys : List A) → any t (xs ++ ys) ≡ any t xs || any t ys
+  pub any-append : (t : A → Bool) (xs ys : List A) → anyOf t (xs ++ ys) ≡ anyOf t xs || anyOf t ys
   any-append t [] ys = refl
   any-append t (x ∷ xs) ys = go (t x) (any-append t xs ys)
     where
-      go : (b : Bool) → any t (xs ++ ys) ≡ any t xs || any t ys → b || any t (xs ++ ys) ≡ (b || any t xs) || any t ys
+      go : (b : Bool) → anyOf t (xs ++ ys) ≡ anyOf t xs || anyOf t ys → b || anyOf t (xs ++ ys) ≡ (b || anyOf t xs) || anyOf t ys
       go true ih = refl
       go false ih = ih

@@ -6,7 +6,7 @@ use mathlib.Core.List.{List, [], _∷_, _++_, map, append-nil}
 use Prim.Native.Nat.{ℕ, suc, _+_, _≤_, _<_, _-_}
 use native.Mathlib.Omega.{arith}
 use lib.Dec.{ltb, lt→ltb, ltb→lt}
-use Rattle.records.specs.Records.{rec}
+use Rattle.records.specs.Records.{recOf}
 use Rattle.records.specs.declared.Rec.{Rec}
 use Rattle.indexing_iter.specs.Keys.{sortOf, arityOf, bitsOf}
 use Rattle.indexing_iter.specs.declared.OptArgIndexKey.{OptArgIndexKey as Key}
@@ -76,9 +76,9 @@ abbrev pub from : List Table → List Choice → Index → Waiting
 from ts cs ls = waiting [] [] ts cs ls
 
 pub read-table : (t : Table) (ts : List Table) (cs : List Choice) (ls : Index) → FitTable t → readAll (tableRecs t) (from ts cs ls) ≡ from (t ∷ ts) cs ls
-read-table (switch a es) ts cs ls f = ap (read 2 (rec 2 0 a 0 0)) (read-entries es (from ts cs ls) f) ∙ rw (append-nil es)
+read-table (switch a es) ts cs ls f = ap (read 2 (recOf 2 0 a 0 0)) (read-entries es (from ts cs ls) f) ∙ rw (append-nil es)
 read-table (onDemand a) ts cs ls f = refl
-read-table (dead a os) ts cs ls f = ap (read 4 (rec 4 0 a 0 0)) (read-deads os (from ts cs ls)) ∙ rw (append-nil os)
+read-table (dead a os) ts cs ls f = ap (read 4 (recOf 4 0 a 0 0)) (read-deads os (from ts cs ls)) ∙ rw (append-nil os)
 
 pub read-tables : (ts : List Table) (cs : List Choice) (ls : Index) → All FitTable ts → readAll (tablesRecs ts) (from [] cs ls) ≡ from ts cs ls
 read-tables [] cs ls f = refl

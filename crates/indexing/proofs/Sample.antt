@@ -7,7 +7,7 @@ use mathlib.Core.List.{List, [], _∷_}
 use lib.Dec.{eqb, leb}
 use lib.ListN.{getD}
 use Rattle.records.specs.declared.Rec.{Rec}
-use Rattle.records.specs.Records.{rec}
+use Rattle.records.specs.Records.{recOf}
 use Rattle.indexing_iter.specs.declared.OptArgIndexKey.{OptArgIndexKey as Key}
 use Rattle.indexing_iter.specs.declared.OptArgIndexKey.the-variants.{None, Literal, List as ListKey}
 use Rattle.indexing_iter.specs.declared.Settings.{Settings}
@@ -59,29 +59,29 @@ show = clause 1 (atom 7 ∷ atom 1 ∷ []) ∷ clause 4 (atom 8 ∷ ListKey ∷ 
 
 -- a line's mode is 0 static, 1 dynamic
 abbrev pub line : ℕ → ℕ → Rec
-line mode number = rec 1 mode 0 number 0
+line mode number = recOf 1 mode 0 number 0
 
 abbrev pub switch : ℕ → Rec
-switch a = rec 2 0 a 0 0
+switch a = recOf 2 0 a 0 0
 
 abbrev pub demand : ℕ → Rec
-demand a = rec 3 0 a 0 0
+demand a = recOf 3 0 a 0 0
 
 abbrev pub dead : ℕ → Rec
-dead a = rec 4 0 a 0 0
+dead a = recOf 4 0 a 0 0
 
 abbrev pub entry : ℕ → ℕ → ℕ → ℕ → Rec
-entry sort arity bits pointer = rec 5 sort arity pointer bits
+entry sort arity bits pointer = recOf 5 sort arity pointer bits
 
 -- an internal pointer
 abbrev pub inner : ℕ → ℕ
 inner distance = 2147483648 + distance
 
 abbrev pub offset : ℕ → ℕ → Rec
-offset tag o = rec 6 tag 0 o 0
+offset tag o = recOf 6 tag 0 o 0
 
 abbrev pub deadClause : ℕ → Rec
-deadClause o = rec 7 0 0 o 0
+deadClause o = recOf 7 0 0 o 0
 
 -- document 01's listing
 abbrev pub listing : List Rec
@@ -92,10 +92,10 @@ listing =
 -- ---- code records and settings
 
 abbrev pub constant : ℕ → ℕ → Rec
-constant register bits = rec 18 0 1 register bits
+constant register bits = recOf 18 0 1 register bits
 
 abbrev pub body : Rec
-body = rec 64 0 0 0 0
+body = recOf 64 0 0 0 0
 
 -- arity, mask, dynamic, extensible, non-counted, skip
 abbrev pub settings : ℕ → ℕ → Bool → Bool → Bool → Bool → Settings

@@ -10,7 +10,7 @@ use Rattle.indexing_iter.specs.declared.Settings.{Settings}
 use Rattle.indexing_iter.specs.declared.Checked.{Checked}
 use Rattle.indexing_iter.specs.declared.Checked.the-variants.{Passed, Refused}
 use Rattle.indexing_iter.specs.Clauses.{offsetsOf}
-use Rattle.indexing_iter.specs.Checks.{orElse, refuse, checkBuild}
+use Rattle.indexing_iter.specs.Checks.{otherwise, refuse, checkBuild}
 use Rattle.indexing.specs.Lines.{Index, size, records, modeOf}
 use Rattle.indexing.specs.Build.{programOf}
 use Rattle.indexing.specs.Expand.{build}
@@ -46,4 +46,4 @@ indexOf cls code starts S c = build (programOf cls S (recordsOf code) starts) c 
 unfoldable pub buildCall : (ℕ → ℕ) → List ℕ → List ℕ → Settings → ℕ → List ℕ → Built
 buildCall cls code starts S c buffer =
     let idx = indexOf cls code starts S c in
-    builtBy (orElse (checkBuild cls (S .arity) c code starts) (checkRoom buffer idx)) S idx buffer
+    builtBy (otherwise (checkBuild cls (S .arity) c code starts) (checkRoom buffer idx)) S idx buffer

@@ -10,12 +10,12 @@ use mathlib.Core.List.{List, [], _∷_, _++_, map}
 use lib.Dec.{eqb, leb, ltb}
 use lib.ListN.{length, getD}
 use Rattle.records.specs.declared.Rec.{Rec}
-use Rattle.records.specs.Records.{rec}
+use Rattle.records.specs.Records.{recOf}
 use Rattle.indexing_iter.specs.declared.OptArgIndexKey.{OptArgIndexKey as Key}
 use Rattle.indexing_iter.specs.declared.Settings.{Settings}
 use Rattle.indexing_iter.specs.Keys.{isOpen, bitsOf}
 use Rattle.indexing_iter.specs.Rows.{headOf}
-use Rattle.indexing.specs.Upto.{one, countTo, anyTo, listTo}
+use Rattle.indexing.specs.Upto.{bit, countTo, anyTo, listTo}
 use Rattle.indexing.specs.Lines.{modeOf}
 use Rattle.indexing.specs.Build.{maskedAt}
 
@@ -53,7 +53,7 @@ bitsTo K offs a n = listTo (λ j. bitsOf (K (getD offs j 0) a) ∷ []) n
 
 -- the 32 numbers of one clause: 1 where an argument up to the arity has no key
 unfoldable pub openRow : (ℕ → ℕ → Key) → ℕ → ℕ → List ℕ
-openRow K arity o = listTo (λ b. one (cond (ltb b arity) (isOpen (K o (b + 1))) false) ∷ []) 32
+openRow K arity o = listTo (λ b. bit (cond (ltb b arity) (isOpen (K o (b + 1))) false) ∷ []) 32
 
 unfoldable pub opensTo : (ℕ → ℕ → Key) → ℕ → List ℕ → ℕ → List ℕ
 opensTo K arity offs n = listTo (λ j. openRow K arity (getD offs j 0)) n
@@ -106,7 +106,7 @@ module _ (leaders : List ℕ) where
       pointerTo dynamic i d = cond (needsLine dynamic i) (2147483648 + d) (getD offs i 0)
 
       abbrev pub entryOf : Bool → ℕ → ℕ → Rec
-      entryOf dynamic d i = rec 5 (getD heads i 0 / 65536 % 256) (getD heads i 0 % 65536) (pointerTo dynamic i d) (getD bits i 0)
+      entryOf dynamic d i = recOf 5 (getD heads i 0 / 65536 % 256) (getD heads i 0 % 65536) (pointerTo dynamic i d) (getD bits i 0)
 
       -- the entry of the bucket that clause i opens in group g, if it opens one
       unfoldable pub entryAt : Bool → ℕ → ℕ → ℕ → List Rec
@@ -117,7 +117,7 @@ module _ (leaders : List ℕ) where
       entries dynamic g d = listTo (λ i. entryAt dynamic g (d + linesTo dynamic g i) i) (length leaders)
 
       unfoldable pub listEntries : Bool → ℕ → List Rec
-      listEntries dynamic d = cond (emptyList dynamic) (rec 5 5 0 (2147483648 + d) 0 ∷ []) (entries dynamic 2 d)
+      listEntries dynamic d = cond (emptyList dynamic) (recOf 5 5 0 (2147483648 + d) 0 ∷ []) (entries dynamic 2 d)
 
       -- the switch on an argument and its entries by literals, list, structures; d is the distance of the first new line, and
       -- lines stand by list, structures, literals
@@ -125,7 +125,7 @@ module _ (leaders : List ℕ) where
       switchRecs dynamic arg d =
           let structures : ℕ = d + listLines dynamic in
           let literals : ℕ = structures + linesTo dynamic 3 (length leaders) in
-          rec 2 0 arg 0 0 ∷ (entries dynamic 1 literals ++ (listEntries dynamic d ++ entries dynamic 3 structures))
+          recOf 2 0 arg 0 0 ∷ (entries dynamic 1 literals ++ (listEntries dynamic d ++ entries dynamic 3 structures))
 
 module _ (leaders opens offs : List ℕ) where
   -- clause j, of the bucket that clause i leads, has no key at argument b
@@ -134,15 +134,15 @@ module _ (leaders opens offs : List ℕ) where
 
   -- the dead clauses of the bucket at argument b
   unfoldable pub deadClauses : ℕ → ℕ → List Rec
-  deadClauses i b = listTo (λ j. cond (openMember i b j) (rec 7 0 0 (getD offs j 0) 0 ∷ []) []) (length leaders)
+  deadClauses i b = listTo (λ j. cond (openMember i b j) (recOf 7 0 0 (getD offs j 0) 0 ∷ []) []) (length leaders)
 
   -- the table for argument b in the line of the bucket that clause i leads: none, on demand or dead
   unfoldable pub tableAt : ℕ → Bool → ℕ → ℕ → List Rec
   tableAt mask extensible i b =
       cond (maskedAt mask b) []
       (cond (anyTo (openMember i b) (length leaders))
-      (cond extensible (rec 4 0 b 0 0 ∷ deadClauses i b) [])
-      (rec 3 0 b 0 0 ∷ []))
+      (cond extensible (recOf 4 0 b 0 0 ∷ deadClauses i b) [])
+      (recOf 3 0 b 0 0 ∷ []))
 
   -- the tables for k arguments from b on
   unfoldable pub tablesAt : ℕ → Bool → ℕ → ℕ → ℕ → List Rec
@@ -157,7 +157,7 @@ module _ (leaders offs tags : List ℕ) where
   -- the offset of clause j, if it is in the bucket that clause i leads, as number k of n
   unfoldable pub choiceAt : Bool → Bool → ℕ → ℕ → ℕ → ℕ → List Rec
   choiceAt dynamic default n i k j =
-      cond (member leaders i j) (rec 6 (tagAt dynamic default (getD tags j 0) n k) 0 (getD offs j 0) 0 ∷ []) []
+      cond (member leaders i j) (recOf 6 (tagAt dynamic default (getD tags j 0) n k) 0 (getD offs j 0) 0 ∷ []) []
 
   -- the offsets of the bucket that clause i leads
   unfoldable pub choices : Bool → Bool → ℕ → List Rec
@@ -169,7 +169,7 @@ module _ (leaders heads opens offs tags : List ℕ) (S : Settings) (arg : ℕ) w
   -- the line of a number for the bucket that clause i leads; where i is past the clauses, the line of none
   unfoldable pub lineOf : ℕ → ℕ → List Rec
   lineOf number i =
-      rec 1 (modeOf (S .dynamic)) 0 number 0
+      recOf 1 (modeOf (S .dynamic)) 0 number 0
       ∷ (tablesAt leaders opens offs (S .mask) (S .extensible) i (arg + 1) (S .arity - arg) ++ choices leaders offs tags (S .dynamic) (S .«non_counted») i)
 
   -- where clause i opens a line of group g, that line
@@ -194,10 +194,10 @@ module _ (leaders heads opens offs tags : List ℕ) (S : Settings) (arg : ℕ) w
 module _ (zeros opens offs tags : List ℕ) (S : Settings) (arg : ℕ) where
   unfoldable pub seedRecs : List Rec
   seedRecs =
-      rec 1 (modeOf (S .dynamic)) 0 0 0
-      ∷ (rec 3 0 arg 0 0
+      recOf 1 (modeOf (S .dynamic)) 0 0 0
+      ∷ (recOf 3 0 arg 0 0
       ∷ (tablesAt zeros opens offs (S .mask) (S .extensible) 0 (arg + 1) (S .arity - arg) ++ choices zeros offs tags (S .dynamic) (S .«non_counted») 0))
 
 -- the dead table for an argument, all clauses being one bucket
 unfoldable pub deadRecs : List ℕ → List ℕ → List ℕ → ℕ → List Rec
-deadRecs zeros opens offs arg = rec 4 0 arg 0 0 ∷ deadClauses zeros opens offs 0 arg
+deadRecs zeros opens offs arg = recOf 4 0 arg 0 0 ∷ deadClauses zeros opens offs 0 arg

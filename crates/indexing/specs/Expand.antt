@@ -1,9 +1,11 @@
 -- Expansion of an on-demand table, and the builder as an expansion of the one-line index (document 01, sections 3 and 4).
 -- Assumes nothing.
+use mathlib.Core.Bool.{Bool, true, false, cond}
 use mathlib.Core.List.{List, [], _∷_, _++_}
 use Prim.Native.Nat.{ℕ, suc, _+_, _-_}
+use lib.Dec.{leb}
 use lib.ListN.{length, set}
-use Rattle.indexing.specs.Lines.{Table, switch, onDemand, dead, Choice, Line, Index, lineAt, offs, swap}
+use Rattle.indexing.specs.Lines.{Table, switch, onDemand, dead, Choice, Line, Index, lineAt, offs, swap, size}
 use Rattle.indexing.specs.Build.{Program, openAt, laterTables, retag, newLines, newEntries}
 
 -- section 3: all clauses, with the tag z
@@ -37,3 +39,12 @@ module _ (P : Program) where
   -- section 3: the built index
   unfoldable pub build : ℕ → List ℕ → Index
   build c os = expand (seed c os) 0 c
+
+-- section 5, the state of a walk: whether expansions are stored, and the index
+pub record State : Type 0 where
+  pub storing : Bool
+  pub index : Index
+
+-- section 5: an expansion that is due is stored if it is within the capacity; otherwise it and the later ones aren't
+abbrev pub attempt : ℕ → Index → Index → State
+attempt cap idx new = cond (leb (size new) cap) (record { storing = true; index = new }) (record { storing = false; index = idx })

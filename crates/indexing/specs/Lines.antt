@@ -7,7 +7,7 @@ use Prim.Native.Nat.{ℕ, suc, _+_}
 use lib.Dec.{eqb}
 use lib.ListN.{length, getD}
 use Rattle.records.specs.declared.Rec.{Rec}
-use Rattle.records.specs.Records.{rec}
+use Rattle.records.specs.Records.{recOf}
 use Rattle.indexing_iter.specs.declared.OptArgIndexKey.{OptArgIndexKey as Key}
 use Rattle.indexing_iter.specs.Keys.{sortOf, arityOf, bitsOf}
 
@@ -77,17 +77,17 @@ word (int d) = 0x8000_0000 + d
 
 -- section 3: an entry's record
 abbrev pub entryRec : Entry Ptr → Rec
-entryRec e = rec 5 (sortOf (e .key)) (arityOf (e .key)) (word (e .to)) (bitsOf (e .key))
+entryRec e = recOf 5 (sortOf (e .key)) (arityOf (e .key)) (word (e .to)) (bitsOf (e .key))
 
 -- section 3: a dead clause's record
 abbrev pub deadRec : ℕ → Rec
-deadRec o = rec 7 0 0 o 0
+deadRec o = recOf 7 0 0 o 0
 
 -- section 3: a table's records, followed by those of its entries or dead clauses
 abbrev pub tableRecs : Table → List Rec
-tableRecs (switch a es) = rec 2 0 a 0 0 ∷ map entryRec es
-tableRecs (onDemand a) = rec 3 0 a 0 0 ∷ []
-tableRecs (dead a os) = rec 4 0 a 0 0 ∷ map deadRec os
+tableRecs (switch a es) = recOf 2 0 a 0 0 ∷ map entryRec es
+tableRecs (onDemand a) = recOf 3 0 a 0 0 ∷ []
+tableRecs (dead a os) = recOf 4 0 a 0 0 ∷ map deadRec os
 
 -- section 3: the records of a line's tables
 abbrev pub tablesRecs : List Table → List Rec
@@ -96,7 +96,7 @@ tablesRecs (t ∷ ts) = tableRecs t ++ tablesRecs ts
 
 -- section 3: an offset's record
 abbrev pub choiceRec : Choice → Rec
-choiceRec c = rec 6 (c .tag) 0 (c .offset) 0
+choiceRec c = recOf 6 (c .tag) 0 (c .offset) 0
 
 -- section 3: a line's sub, 0 static, 1 dynamic
 abbrev pub modeOf : Bool → ℕ
@@ -105,7 +105,7 @@ modeOf false = 0
 
 -- section 3: the record of the line of mode m and number n
 abbrev pub lineRec : ℕ → ℕ → Rec
-lineRec m n = rec 1 m 0 n 0
+lineRec m n = recOf 1 m 0 n 0
 
 -- section 3: the records of the lines, of mode m, numbered from n on
 abbrev pub records : ℕ → ℕ → Index → List Rec

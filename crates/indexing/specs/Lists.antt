@@ -15,9 +15,9 @@ module _ {A : Type 0} where
   keep p (x ∷ xs) = add (p x) x (keep p xs)
 
   -- some element passes the test (a key met before, section 3)
-  abbrev pub any : (A → Bool) → List A → Bool
-  any p [] = false
-  any p (x ∷ xs) = p x || any p xs
+  abbrev pub anyOf : (A → Bool) → List A → Bool
+  anyOf p [] = false
+  anyOf p (x ∷ xs) = p x || anyOf p xs
 
   -- every element passes the test (the tables of a line, number 12)
   abbrev pub every : (A → Bool) → List A → Bool

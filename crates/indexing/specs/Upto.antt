@@ -4,14 +4,14 @@ use Prim.Native.Nat.{ℕ, zero, suc, _+_}
 use mathlib.Core.Bool.{Bool, true, false, cond}
 use mathlib.Core.List.{List, [], _++_}
 
-abbrev pub one : Bool → ℕ
-one true = 1
-one false = 0
+abbrev pub bit : Bool → ℕ
+bit true = 1
+bit false = 0
 
 -- of the numbers below n, how many pass the test
 unfoldable pub countTo : (ℕ → Bool) → ℕ → ℕ
 countTo t zero = 0
-countTo t (suc n) = countTo t n + one (t n)
+countTo t (suc n) = countTo t n + bit (t n)
 
 -- whether some number below n passes the test
 unfoldable pub anyTo : (ℕ → Bool) → ℕ → Bool

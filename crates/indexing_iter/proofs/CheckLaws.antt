@@ -12,7 +12,7 @@ use lib.ListN.{length, getD, drop, drop-of-length-le}
 use lib.Seq.{drop-cons, slice}
 use borrow.Author.Tests.{leb-true, ltb-true, ltb-false, eqb-true, eqb-false, not-false, eq-eqb}
 use Rattle.records.specs.declared.Rec.{Rec}
-use Rattle.records.specs.Records.{recordsOf, none}
+use Rattle.records.specs.Records.{recordsOf, zeroRec}
 use Rattle.records.proofs.Laws.{length-recordsOf}
 use Rattle.indexing_iter.specs.declared.InstructionArg.{InstructionArg}
 use Rattle.indexing_iter.specs.declared.InstructionArg.the-variants.{ArgedHead, ArglessHead, NonHead, Prologue}
@@ -21,7 +21,7 @@ use Rattle.indexing_iter.specs.declared.Checked.the-variants.{Passed, Re
 use Rattle.indexing_iter.specs.Classes.{argOfClass, instructionArg}
 use Rattle.indexing_iter.specs.Keys.{keyIn, isOpen}
 use Rattle.indexing_iter.specs.Clauses.{endOf, clausesOf, offsetsOf, clauseAt, keyOf, known}
-use Rattle.indexing_iter.specs.Checks.{risingBelow, isBody, hasBody, recordBad, registerBad, registerStep, checkRecords, checkClause, orElse, refuse, checkArity, checkChosen, checkSize, checkStarts, checkClauses, openSomewhere, checkKeyed, checkClausesOf, checkCode, checkBuild}
+use Rattle.indexing_iter.specs.Checks.{risingBelow, isBody, hasBody, recordBad, registerBad, registerStep, checkRecords, checkClause, otherwise, refuse, checkArity, checkChosen, checkSize, checkStarts, checkClauses, openSomewhere, checkKeyed, checkClausesOf, checkCode, checkBuild}
 use Rattle.indexing_iter.proofs.Parts.{slice-step, slice-done}
 use Rattle.indexing_iter.proofs.SameKeys.{and-left, and-right, or-left, or-right}
 
@@ -44,11 +44,11 @@ pub rising-last : (n : ℕ) (s : List ℕ) (i : ℕ) → i + 1 ≡ length s → 
 unfolding risingBelow
 rising-last n s i e =
     let past : length s ≤ i + 1 = omega arith in
-    let none : drop (i + 1) s ≡ [] = drop-of-length-le s past in
-    rw (drop-step s i (omega arith), none) refl
+    let zeroRec : drop (i + 1) s ≡ [] = drop-of-length-le s past in
+    rw (drop-step s i (omega arith), zeroRec) refl
 
 pub body-step : (cls : ℕ → ℕ) (rs : List Rec) (i end : ℕ) → i < end → end ≤ length rs
-    → hasBody cls (slice i end rs) ≡ (isBody (instructionArg cls (getD rs i none)) || hasBody cls (slice (i + 1) end rs))
+    → hasBody cls (slice i end rs) ≡ (isBody (instructionArg cls (getD rs i zeroRec)) || hasBody cls (slice (i + 1) end rs))
 unfolding hasBody
 body-step cls rs i end h k = rw (slice-step rs i end h k) refl
 
@@ -89,12 +89,12 @@ unfolding clauseFrom checkClause
 clause-whole cls arity rs = refl
 
 pub clause-step : (cls : ℕ → ℕ) (arity : ℕ) (rs : List Rec) (i end last : ℕ) (r : Rec) (class : ℕ) → i < end → end ≤ length rs
-    → r ≡ getD rs i none → class ≡ cls (r .kind)
+    → r ≡ getD rs i zeroRec → class ≡ cls (r .kind)
     → clauseFrom cls arity (slice i end rs) last
     ≡ clauseStep (recordBad class r) (argOfClass class r) (hasBody cls (slice i end rs)) arity last (clauseFrom cls arity (slice (i + 1) end rs))
 unfolding clauseFrom hasBody checkRecords
 clause-step cls arity rs i end last r class h k e q =
-    let first : Rec = getD rs i none in
+    let first : Rec = getD rs i zeroRec in
     let rest : List Rec = slice (i + 1) end rs in
     rw (slice-step rs i end h k, q, e)
     (one-pass (recordBad (cls (first .kind)) first) (argOfClass (cls (first .kind)) first) (hasBody cls rest) arity last (checkRecords cls arity rest))
@@ -142,7 +142,7 @@ clauses-none rs s i h = rw (drop-of-length-le s h) refl
 
 -- ---- what a passed check tells
 
-pub passed-both : (a b : Checked) → orElse a b ≡ Passed → (a ≡ Passed) × (b ≡ Passed)
+pub passed-both : (a b : Checked) → otherwise a b ≡ Passed → (a ≡ Passed) × (b ≡ Passed)
 passed-both Passed b e = (refl, e)
 passed-both (Refused n) b e = let z : _≡_ {A = ℕ} 0 1 = cc in absurd (omega arith)
 
@@ -253,7 +253,7 @@ module _ (cls : ℕ → ℕ) (arity : ℕ) (code starts : List ℕ) where
   unfolding checkClausesOf
   clauses-of-passed e =
       let clauses : Checked = checkClauses cls arity (clausesOf (recordsOf code) starts) in
-      let t = passed-both (checkSize code) (orElse (checkStarts (length code / 16) starts) clauses) e in
+      let t = passed-both (checkSize code) (otherwise (checkStarts (length code / 16) starts) clauses) e in
       let u = passed-both (checkStarts (length code / 16) starts) clauses (t .1) in
       (t .0, u .0, u .1)
 
@@ -294,8 +294,8 @@ module _ (cls : ℕ → ℕ) (arity : ℕ) (code starts : List ℕ) where
   build-passed c e =
       let keyed : Checked = checkKeyed cls c (clausesOf (recordsOf code) starts) in
       let clauses : Checked = checkClausesOf cls arity code starts in
-      let t = passed-both (checkArity arity) (orElse (checkChosen arity c) (orElse clauses keyed)) e in
-      let u = passed-both (checkChosen arity c) (orElse clauses keyed) (t .1) in
+      let t = passed-both (checkArity arity) (otherwise (checkChosen arity c) (otherwise clauses keyed)) e in
+      let u = passed-both (checkChosen arity c) (otherwise clauses keyed) (t .1) in
       let v = passed-both clauses keyed (u .1) in
       (t .0, u .0, v .0, v .1)
 

@@ -22,7 +22,7 @@ use Rattle.indexing_iter.specs.Classes.{instructionArg, argOfClass, keyO
 use Rattle.indexing_iter.specs.Keys.{keyIn, keyStep}
 use Rattle.indexing_iter.specs.Clauses.{endOf, clausesOf, clauseAt, keyOf, known}
 use Rattle.indexing_iter.specs.Rows.{keysIn, keysOf}
-use Rattle.indexing_iter.specs.Checks.{orElse, risingBelow, isBody, hasBody, keyFieldsOk, recordBad, registerBad, registerStep, checkRecords, checkClause, checkClauses, checkCode}
+use Rattle.indexing_iter.specs.Checks.{otherwise, risingBelow, isBody, hasBody, keyFieldsOk, recordBad, registerBad, registerStep, checkRecords, checkClause, checkClauses, checkCode}
 use Rattle.indexing_iter.proofs.CheckLaws.{rising-tail, rising-head, end-below, passed-both, code-arity, code-size, code-starts, code-rising, code-clauses}
 use Rattle.indexing_iter.proofs.SameKeys.{and-left, and-right, or-left, or-right, KeyInRange}
 
@@ -92,10 +92,10 @@ isPassed (Refused n) = ⊥
 pub refused-not : (n : ℕ) → Refused n ≡ Passed → ⊥
 refused-not n e = subst isPassed (sym e) tt
 
-pub or-else-first : (a b : Checked) → orElse a b ≡ Passed → a ≡ Passed
+pub or-else-first : (a b : Checked) → otherwise a b ≡ Passed → a ≡ Passed
 or-else-first a b e = passed-both a b e .0
 
-pub or-else-next : (a b : Checked) → orElse a b ≡ Passed → b ≡ Passed
+pub or-else-next : (a b : Checked) → otherwise a b ≡ Passed → b ≡ Passed
 or-else-next a b e = passed-both a b e .1
 
 -- the test of a refusal that was not made

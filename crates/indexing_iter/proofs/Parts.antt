@@ -7,12 +7,12 @@ use mathlib.Core.List.{List, [], _∷_}
 use lib.ListN.{length, getD, take, length-take, drop-of-length-le}
 use lib.Seq.{slice, slice-cons}
 use Rattle.records.specs.declared.Rec.{Rec}
-use Rattle.records.specs.Records.{none}
+use Rattle.records.specs.Records.{zeroRec}
 use Rattle.indexing_iter.specs.declared.InstructionArg.{InstructionArg}
 use Rattle.indexing_iter.specs.Classes.{argOfClass, instructionArg}
 
-pub slice-step : (rs : List Rec) (i end : ℕ) → i < end → end ≤ length rs → slice i end rs ≡ getD rs i none ∷ slice (i + 1) end rs
-slice-step rs i end h k = rw (add-one i) (slice-cons i end rs none h k)
+pub slice-step : (rs : List Rec) (i end : ℕ) → i < end → end ≤ length rs → slice i end rs ≡ getD rs i zeroRec ∷ slice (i + 1) end rs
+slice-step rs i end h k = rw (add-one i) (slice-cons i end rs zeroRec h k)
 
 pub slice-done : (rs : List Rec) (i end : ℕ) → end ≤ i → slice i end rs ≡ []
 slice-done rs i end h =

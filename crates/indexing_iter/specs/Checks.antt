@@ -21,9 +21,9 @@ numberOf Passed = 0
 numberOf (Refused n) = n
 
 -- the first check's refusal, or else the next one's answer
-abbrev pub orElse : Checked → Checked → Checked
-orElse Passed next = next
-orElse (Refused n) next = Refused n
+abbrev pub otherwise : Checked → Checked → Checked
+otherwise Passed next = next
+otherwise (Refused n) next = Refused n
 
 -- refused with n where the condition is met
 abbrev pub refuse : Bool → ℕ → Checked
@@ -94,7 +94,7 @@ checkClause cls arity rs = cond (hasBody cls rs) (checkRecords cls arity rs 0) (
 -- 5 to 7, clause by clause
 unfoldable pub checkClauses : (ℕ → ℕ) → ℕ → List (List Rec) → Checked
 checkClauses cls arity [] = Passed
-checkClauses cls arity (c ∷ cs) = let rest = checkClauses cls arity cs in orElse (checkClause cls arity c) rest
+checkClauses cls arity (c ∷ cs) = let rest = checkClauses cls arity cs in otherwise (checkClause cls arity c) rest
 
 -- 8: a clause with no key at c
 unfoldable pub openSomewhere : (ℕ → ℕ) → ℕ → List (List Rec) → Bool
@@ -107,18 +107,18 @@ checkKeyed cls c cs = refuse (openSomewhere cls c cs) 8
 -- 3 to 7, of the code with its starts
 unfoldable pub checkClausesOf : (ℕ → ℕ) → ℕ → List ℕ → List ℕ → Checked
 checkClausesOf cls arity code starts =
-    orElse (checkSize code)
-    (orElse (checkStarts (length code / 16) starts)
+    otherwise (checkSize code)
+    (otherwise (checkStarts (length code / 16) starts)
     (checkClauses cls arity (clausesOf (recordsOf code) starts)))
 
 -- 1 and 3 to 7: what walk and witness check of the code
 unfoldable pub checkCode : (ℕ → ℕ) → ℕ → List ℕ → List ℕ → Checked
-checkCode cls arity code starts = orElse (checkArity arity) (checkClausesOf cls arity code starts)
+checkCode cls arity code starts = otherwise (checkArity arity) (checkClausesOf cls arity code starts)
 
 -- 1 to 8: what the builder checks
 unfoldable pub checkBuild : (ℕ → ℕ) → ℕ → ℕ → List ℕ → List ℕ → Checked
 checkBuild cls arity c code starts =
-    orElse (checkArity arity)
-    (orElse (checkChosen arity c)
-    (orElse (checkClausesOf cls arity code starts)
+    otherwise (checkArity arity)
+    (otherwise (checkChosen arity c)
+    (otherwise (checkClausesOf cls arity code starts)
     (checkKeyed cls c (clausesOf (recordsOf code) starts))))

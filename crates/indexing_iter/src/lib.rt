@@ -11,7 +11,7 @@ ghost use Prim.Native.Nat.{_+_, _-_, _*_, _≤_, _<_};
 ghost use lib.ListN.{length, drop, getD, replicate};
 ghost use lib.Seq.{slice};
 ghost use mathlib.Core.List.{map, _++_};
-ghost use Rattle.records.specs.Records.{recordsOf, none};
+ghost use Rattle.records.specs.Records.{recordsOf, zeroRec};
 ghost use Rattle.indexing_iter.specs.Classes.{classOf, keyOfClass, argOfClass, instructionArg};
 ghost use Rattle.indexing_iter.specs.Keys.{sortOf, arityOf, bitsOf, groupOf, isOpen, same, keyIn};
 ghost use Rattle.indexing_iter.specs.Clauses.{keyOf, known};
@@ -210,7 +210,7 @@ fn arg_of_class(class: u8, r: Rec) -> InstructionArg
 // What the code record at place i says of an argument, by a table of classes.
 pub fn extract_index_arg(table: &[u8], code: &[u8], i: usize) -> InstructionArg
     requires { ⌜ (length (now table) ≡ 256) × (i < length (recordsOf (now code))) ⌝ }
-    ensures { λ a. ⌜ a ≡ instructionArg (λ op. getD (now (table .entry)) op 0) (getD (recordsOf (now (code .entry))) i none) ⌝ }
+    ensures { λ a. ⌜ a ≡ instructionArg (λ op. getD (now (table .entry)) op 0) (getD (recordsOf (now (code .entry))) i zeroRec) ⌝ }
 {
     let r = records::get(code, i);
     arg_of_class(class_in(table, r.kind), r)

@@ -16,14 +16,14 @@ use Rattle.indexing.proofs.Pointers.{Closed, closed-expand}
 use Rattle.indexing.proofs.Size.{extra, size-expand}
 use Rattle.indexing.proofs.Tests.{bool-absurd, and-true}
 use Rattle.indexing.specs.Build.{Program}
-use Rattle.indexing.specs.Expand.{expanded, expand}
+use Rattle.indexing.specs.Expand.{expanded, expand, State}
 use Rattle.indexing.specs.Lines.{Table, switch, onDemand, dead, Index, lineAt, find, size}
 use Rattle.indexing_scan.proofs.Same.{Alike, skips, passes, stops, outs, gotos}
 use Rattle.indexing_scan.proofs.Walks.{Has, has-line, has-new, act-left, has-move, Turn, quiet, stores, refuses, turn, settle-quiet}
 use Rattle.indexing_scan.proofs.Walks.{settle-full, step, walk-grown}
 use Rattle.indexing_scan.proofs.UnstoredWalk.{left-new}
 use Rattle.indexing_scan.specs.Agree.{Call}
-use Rattle.indexing_scan.specs.Walk.{Place, line, unstored, Move, skip, stop, pass, out, goto, act, moveOn, move, State, Result, lookAt, result}
+use Rattle.indexing_scan.specs.Walk.{Place, line, unstored, Move, skip, stop, pass, out, goto, act, moveOn, move, Result, lookAt, result}
 use Rattle.indexing_scan.specs.Walk.{isOnDemand, due, settle, walkFrom}
 
 -- places of which nothing is asked

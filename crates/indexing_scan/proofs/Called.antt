@@ -7,7 +7,7 @@ use mathlib.Core.List.{List, [], _∷_, _++_}
 use lib.Dec.{T, eqb}
 use lib.ListN.{length, take}
 use Rattle.records.specs.declared.Rec.{Rec}
-use Rattle.records.specs.Records.{rec, decode, encodeRec, encode, recs, recordsOf}
+use Rattle.records.specs.Records.{recOf, decode, encodeRec, encode, recs, recordsOf}
 use Rattle.indexing_iter.specs.Classes.{classOf, argOfClass}
 use Rattle.indexing_iter.specs.Keys.{keyIn}
 use Rattle.indexing_iter.specs.Clauses.{clausesOf, clauseAt, keyOf, known}
@@ -21,22 +21,22 @@ use Rattle.indexing_scan.specs.Calls.{argumentOk, Walked, callOf, result
 -- ---- arguments of a call
 
 abbrev unbound : Rec
-unbound = rec 0 0 0 0 0
+unbound = recOf 0 0 0 0 0
 
 abbrev atom : ℕ → Rec
-atom bits = rec 0 1 0 0 bits
+atom bits = recOf 0 1 0 0 bits
 
 abbrev list : Rec
-list = rec 0 5 0 0 0
+list = recOf 0 5 0 0 0
 
 abbrev good : List Rec
-good = unbound ∷ atom 7 ∷ rec 0 2 0 0 7 ∷ rec 0 3 0 0 7 ∷ rec 0 4 1 0 7 ∷ rec 0 4 255 0 0 ∷ list ∷ []
+good = unbound ∷ atom 7 ∷ recOf 0 2 0 0 7 ∷ recOf 0 3 0 0 7 ∷ recOf 0 4 1 0 7 ∷ recOf 0 4 255 0 0 ∷ list ∷ []
 
 -- kind, word; half and long of unbound; half of literals; structure arity; half and long of a list; sort
 abbrev bad : List Rec
 bad =
-    rec 1 0 0 0 0 ∷ rec 0 1 0 1 7 ∷ rec 0 0 1 0 0 ∷ rec 0 0 0 0 1 ∷ rec 0 1 1 0 7 ∷ rec 0 3 1 0 7 ∷ rec 0 4 0 0 7 ∷ rec 0 4 256 0 7
-    ∷ rec 0 5 1 0 0 ∷ rec 0 5 0 0 1 ∷ rec 0 6 0 0 0 ∷ []
+    recOf 1 0 0 0 0 ∷ recOf 0 1 0 1 7 ∷ recOf 0 0 1 0 0 ∷ recOf 0 0 0 0 1 ∷ recOf 0 1 1 0 7 ∷ recOf 0 3 1 0 7 ∷ recOf 0 4 0 0 7 ∷ recOf 0 4 256 0 7
+    ∷ recOf 0 5 1 0 0 ∷ recOf 0 5 0 0 1 ∷ recOf 0 6 0 0 0 ∷ []
 
 -- ---- a call on one clause with atom 7 at argument 1: number, case, line, count, tables, mark and records; out and index at the end
 
@@ -97,11 +97,11 @@ calls =
       arity = 2;
       call = fine;
       out = 99 ∷ 99 ∷ [];
-      index = ready ++ (rec 9 9 9 9 9 ∷ rec 9 9 9 9 9 ∷ []);
+      index = ready ++ (recOf 9 9 9 9 9 ∷ recOf 9 9 9 9 9 ∷ []);
       count = 3;
       answer = 0 ∷ 2 ∷ 0 ∷ 1 ∷ 1 ∷ 0 ∷ 4 ∷ [];
       last = 1 ∷ 99 ∷ [];
-      left = line 0 0 ∷ switch 1 ∷ entry 1 0 7 1 ∷ offset 1 1 ∷ rec 9 9 9 9 9 ∷ [];
+      left = line 0 0 ∷ switch 1 ∷ entry 1 0 7 1 ∷ offset 1 1 ∷ recOf 9 9 9 9 9 ∷ [];
     }
     -- it does not fit
     ∷ stays ready (atom 7) (0 ∷ 2 ∷ 0 ∷ 1 ∷ 1 ∷ 1 ∷ 3 ∷ []) (1 ∷ 99 ∷ [])
@@ -110,7 +110,7 @@ calls =
     ∷ stays (line 0 0 ∷ switch 1 ∷ entry 1 0 7 (inner 1) ∷ offset 1 1 ∷ line 0 1 ∷ offset 1 1 ∷ []) (atom 8) (0 ∷ 3 ∷ 1 ∷ 1 ∷ 1 ∷ 0 ∷ 6 ∷ []) (1 ∷ 99 ∷ [])
     -- the first number that applies: 1, 10, 11, 12
     ∷ refuses 1 33 [] [] [] 0 ∷ refuses 1 0 [] [] [] 0
-    ∷ refuses 10 2 (take 31 fine) [] [] 0 ∷ refuses 10 2 (fine ++ fine) [] [] 0 ∷ refuses 10 2 (encode (atom 7 ∷ rec 0 6 0 0 0 ∷ [])) [] [] 0
+    ∷ refuses 10 2 (take 31 fine) [] [] 0 ∷ refuses 10 2 (fine ++ fine) [] [] 0 ∷ refuses 10 2 (encode (atom 7 ∷ recOf 0 6 0 0 0 ∷ [])) [] [] 0
     ∷ refuses 11 2 fine [] [] 0
     ∷ refuses 12 2 fine (99 ∷ []) ready 0 ∷ refuses 12 2 fine (99 ∷ []) ready 4 ∷ refuses 12 2 fine (99 ∷ []) (demand 1 ∷ ready) 4 ∷ []
 
@@ -125,7 +125,7 @@ agrees p q os =
 abbrev agreements : Bool
 agreements =
     agrees unbound unbound (1 ∷ 3 ∷ []) && (agrees unbound (atom 6) (1 ∷ []) && (agrees (atom 8) (atom 5) (3 ∷ [])
-    && (agrees (atom 8) (atom 6) [] && (agrees (atom 9) unbound [] && agrees unbound (rec 0 2 0 0 5) (1 ∷ [])))))
+    && (agrees (atom 8) (atom 6) [] && (agrees (atom 9) unbound [] && agrees unbound (recOf 0 2 0 0 5) (1 ∷ [])))))
 
 -- some agreeing clause's offset, 0 only if there is none
 abbrev chosen : Bool

@@ -13,7 +13,7 @@ use lib.ListN.{length, getD, take}
 use lib.Seq.{slice, length-slice, getD-drop, getD-take}
 use borrow.Author.Tests.{eqb-false, ne-eqb, ltb-true, ltb-false, le-leb, lt-leb}
 use Rattle.records.specs.declared.Rec.{Rec}
-use Rattle.records.specs.Records.{none}
+use Rattle.records.specs.Records.{zeroRec}
 use Rattle.records.specs.Pointer.{isInternal, distanceOf}
 use Rattle.indexing_iter.specs.declared.OptArgIndexKey.{OptArgIndexKey as Key}
 use Rattle.indexing_iter.specs.Keys.{groupOf, same}
@@ -41,18 +41,18 @@ module _ (t : Rec → Bool) where
       go true e ih = absurd (omega arith)
       go false e ih = ih e
 
-  one-kept : (rs : List Rec) → countOf t rs ≡ 1 → (upTo t rs < length rs) × (keep t rs ≡ getD rs (upTo t rs) none ∷ [])
+  one-kept : (rs : List Rec) → countOf t rs ≡ 1 → (upTo t rs < length rs) × (keep t rs ≡ getD rs (upTo t rs) zeroRec ∷ [])
   unfolding countOf upTo
   one-kept [] e = absurd (omega arith)
   one-kept (r ∷ rs) e = go (t r) e (one-kept rs)
     where
       go : (b : Bool) → cond b (countOf t rs + 1) (countOf t rs) ≡ 1
-          → (countOf t rs ≡ 1 → (upTo t rs < length rs) × (keep t rs ≡ getD rs (upTo t rs) none ∷ []))
-          → (cond b 0 (upTo t rs + 1) < suc (length rs)) × (add b r (keep t rs) ≡ getD (r ∷ rs) (cond b 0 (upTo t rs + 1)) none ∷ [])
+          → (countOf t rs ≡ 1 → (upTo t rs < length rs) × (keep t rs ≡ getD rs (upTo t rs) zeroRec ∷ []))
+          → (cond b 0 (upTo t rs + 1) < suc (length rs)) × (add b r (keep t rs) ≡ getD (r ∷ rs) (cond b 0 (upTo t rs + 1)) zeroRec ∷ [])
       go true e ih = (omega arith, ap (λ (l : List Rec). r ∷ l) (none-kept rs (omega arith)))
       go false e ih =
           let w = ih e in
-          (omega (arith, w .0), w .1 ∙ ap (λ (k : ℕ). getD (r ∷ rs) k none ∷ []) (sym (add-one (upTo t rs))))
+          (omega (arith, w .0), w .1 ∙ ap (λ (k : ℕ). getD (r ∷ rs) k zeroRec ∷ []) (sym (add-one (upTo t rs))))
 
   length-kept : (rs : List Rec) → length (keep t rs) ≡ countOf t rs
   unfolding countOf
@@ -91,16 +91,16 @@ module _ (q : Key) where
       go true h ih = absurd (omega arith)
       go false h ih = ih (omega arith)
 
-  equal-some : (rs : List Rec) → upTo (hasKey q) rs < length rs → Equal (getD rs (upTo (hasKey q) rs) none .word) ≡ equalRec q rs
+  equal-some : (rs : List Rec) → upTo (hasKey q) rs < length rs → Equal (getD rs (upTo (hasKey q) rs) zeroRec .word) ≡ equalRec q rs
   unfolding equalRec upTo
   equal-some [] h = absurd (not-suc-le-zero h)
   equal-some (r ∷ rs) h = go (hasKey q r) h (equal-some rs)
     where
       go : (b : Bool) → cond b 0 (upTo (hasKey q) rs + 1) < suc (length rs)
-          → (upTo (hasKey q) rs < length rs → Equal (getD rs (upTo (hasKey q) rs) none .word) ≡ equalRec q rs)
-          → Equal (getD (r ∷ rs) (cond b 0 (upTo (hasKey q) rs + 1)) none .word) ≡ cond b (Equal (r .word)) (equalRec q rs)
+          → (upTo (hasKey q) rs < length rs → Equal (getD rs (upTo (hasKey q) rs) zeroRec .word) ≡ equalRec q rs)
+          → Equal (getD (r ∷ rs) (cond b 0 (upTo (hasKey q) rs + 1)) zeroRec .word) ≡ cond b (Equal (r .word)) (equalRec q rs)
       go true h ih = refl
-      go false h ih = ap (λ (k : ℕ). Equal (getD (r ∷ rs) k none .word)) (add-one (upTo (hasKey q) rs)) ∙ ih (omega arith)
+      go false h ih = ap (λ (k : ℕ). Equal (getD (r ∷ rs) k zeroRec .word)) (add-one (upTo (hasKey q) rs)) ∙ ih (omega arith)
 
   pick-many : (rs : List Rec) → 2 ≤ length rs → equalRec q rs ≡ pickRec q rs
   unfolding pickRec
@@ -114,7 +114,7 @@ module _ (q : Key) where
   choose-none rs e = rw (none-kept (inGroup (groupOf q)) rs e)
 
   choose-only : (rs : List Rec) → countOf (inGroup (groupOf q)) rs ≡ 1
-      → (upTo (inGroup (groupOf q)) rs < length rs) × (Only (getD rs (upTo (inGroup (groupOf q)) rs) none .word) ≡ chooseRec q rs)
+      → (upTo (inGroup (groupOf q)) rs < length rs) × (Only (getD rs (upTo (inGroup (groupOf q)) rs) zeroRec .word) ≡ chooseRec q rs)
   unfolding chooseRec pickRec
   choose-only rs e =
       let w = one-kept (inGroup (groupOf q)) rs e in
@@ -131,10 +131,10 @@ module _ (q : Key) (l : List Rec) (from to g count : ℕ) (h : from ≤ to) (k :
   many : count ≡ countOf (inGroup (groupOf q)) (slice from to l)
   many = n ∙ ap (λ (x : ℕ). countOf (inGroup x) (slice from to l)) e
 
-  in-slice : (i place : ℕ) (r : Rec) → place ≡ from + i → place < to → r ≡ getD l place none → r ≡ getD (slice from to l) i none
+  in-slice : (i place : ℕ) (r : Rec) → place ≡ from + i → place < to → r ≡ getD l place zeroRec → r ≡ getD (slice from to l) i zeroRec
   in-slice i place r p w f =
       let v : from + i < to = omega arith in
-      f ∙ ap (λ (x : ℕ). getD l x none) p ∙ sym (getD-drop from (take to l) i none ∙ getD-take to l (from + i) none v)
+      f ∙ ap (λ (x : ℕ). getD l x zeroRec) p ∙ sym (getD-drop from (take to l) i zeroRec ∙ getD-take to l (from + i) zeroRec v)
 
   pub ends-none : count ≡ 0 → Nothing ≡ chooseRec q (slice from to l)
   ends-none c = choose-none q (slice from to l) (sym many ∙ c)
@@ -146,7 +146,7 @@ module _ (q : Key) (l : List Rec) (from to g count : ℕ) (h : from ≤ to) (k :
     pub only-within : place < to
     only-within = omega (arith, there, choose-only q (slice from to l) (sym many ∙ c) .0, length-slice from to l k)
 
-    pub ends-only : (r : Rec) → r ≡ getD l place none → Only (r .word) ≡ chooseRec q (slice from to l)
+    pub ends-only : (r : Rec) → r ≡ getD l place zeroRec → Only (r .word) ≡ chooseRec q (slice from to l)
     ends-only r f =
         ap (λ (x : Rec). Only (x .word)) (in-slice (upTo (inGroup (groupOf q)) (slice from to l)) place r there only-within f)
         ∙ choose-only q (slice from to l) (sym many ∙ c) .1
@@ -156,7 +156,7 @@ module _ (q : Key) (l : List Rec) (from to g count : ℕ) (h : from ≤ to) (k :
     ends-lacking w =
         equal-none q (slice from to l) (omega (arith, length-slice from to l k)) ∙ choose-many q (slice from to l) (omega (arith, many))
 
-    pub ends-equal : place < to → (r : Rec) → r ≡ getD l place none → Equal (r .word) ≡ chooseRec q (slice from to l)
+    pub ends-equal : place < to → (r : Rec) → r ≡ getD l place zeroRec → Equal (r .word) ≡ chooseRec q (slice from to l)
     ends-equal w r f =
         ap (λ (x : Rec). Equal (x .word)) (in-slice (upTo (hasKey q) (slice from to l)) place r p w f)
         ∙ equal-some q (slice from to l) (omega (arith, length-slice from to l k)) ∙ choose-many q (slice from to l) (omega (arith, many))

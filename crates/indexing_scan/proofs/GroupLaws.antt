@@ -13,7 +13,7 @@ use Rattle.indexing_iter.specs.declared.OptArgIndexKey.{OptArgIndexKey as Key}
 use Rattle.indexing_iter.specs.declared.OptArgIndexKey.the-variants.{None, Literal, Structure, List as ListKey}
 use Rattle.indexing_iter.specs.Keys.{groupOf, isOpen, same}
 use Rattle.indexing_iter.proofs.SameKeys.{same-eq, same-refl}
-use Rattle.indexing.specs.Lists.{add, keep, any, every, distinct}
+use Rattle.indexing.specs.Lists.{add, keep, anyOf, every, distinct}
 use Rattle.indexing.specs.Lines.{Entry}
 use Rattle.indexing.specs.Build.{Program, single, keysAt, literals, lists, structures, bucket, lone, buckets, virtual}
 use Rattle.indexing.proofs.BridgeLists.{keep-append, keep-neither, keep-within}
@@ -111,12 +111,12 @@ module _ (P : Program) (a : ℕ) (os : List ℕ) where
       ∙ ap (distinct same) (keep-map (λ k. eqb (groupOf q) (groupOf k)) (λ o. P .keyOf o a) os)
 
   -- the bucket of the equal key
-  equal-buckets : (q : Key) (ks : List Key) → equal q (buckets P a os ks) ≡ cond (any (λ k. same k q) ks) (some (bucket P a os q)) none
+  equal-buckets : (q : Key) (ks : List Key) → equal q (buckets P a os ks) ≡ cond (anyOf (λ k. same k q) ks) (some (bucket P a os q)) none
   equal-buckets q [] = refl
   equal-buckets q (k ∷ ks) = go (same k q) refl (equal-buckets q ks)
     where
-      go : (b : Bool) → same k q ≡ b → equal q (buckets P a os ks) ≡ cond (any (λ k. same k q) ks) (some (bucket P a os q)) none
-          → cond b (some (bucket P a os k)) (equal q (buckets P a os ks)) ≡ cond (b || any (λ k. same k q) ks) (some (bucket P a os q)) none
+      go : (b : Bool) → same k q ≡ b → equal q (buckets P a os ks) ≡ cond (anyOf (λ k. same k q) ks) (some (bucket P a os q)) none
+          → cond b (some (bucket P a os k)) (equal q (buckets P a os ks)) ≡ cond (b || anyOf (λ k. same k q) ks) (some (bucket P a os q)) none
       go true e ih = ap (λ (l : Key). some (bucket P a os l)) (same-eq k q e)
       go false e ih = ih
 
@@ -219,7 +219,7 @@ module _ (P : Program) (a : ℕ) (os : List ℕ) where
     -- several keys in the group: the bucket of the equal key, if there is one
     more-followed : isListLine ≡ false → (o : ℕ) (rest : List ℕ) → ours ≡ o ∷ rest → every (λ x. same (P .keyOf x a) (P .keyOf o a)) (o ∷ rest) ≡ false
         → followNew P (choose P q (virtual P a os))
-          ≡ followNew P (marked 5 (cond (any (λ x. same (P .keyOf x a) q) ours) (some (likeTo (P .keyOf) false a q ours)) none))
+          ≡ followNew P (marked 5 (cond (anyOf (λ x. same (P .keyOf x a) q) ours) (some (likeTo (P .keyOf) false a q ours)) none))
     unfolding likeTo
     more-followed e o rest f g =
         let k : Key = P .keyOf o a in
@@ -227,11 +227,11 @@ module _ (P : Program) (a : ℕ) (os : List ℕ) where
             every-map (λ l. same l k) (λ o. P .keyOf o a) rest ∙ sym (ap (λ (b : Bool). b && every (λ x. same (P .keyOf x a) k) rest) (same-refl k)) ∙ g in
         more-keys k (map (λ o. P .keyOf o a) rest) h
         (followNew P (choose P q (virtual P a os))
-          ≡ followNew P (marked 5 (cond (any (λ x. same (P .keyOf x a) q) ours) (some (likeTo (P .keyOf) false a q ours)) none)))
+          ≡ followNew P (marked 5 (cond (anyOf (λ x. same (P .keyOf x a) q) ours) (some (likeTo (P .keyOf) false a q ours)) none)))
         (λ l ls m.
           let d : distinct same (map (λ o. P .keyOf o a) ours) ≡ k ∷ (l ∷ ls) = ap (λ (l : List ℕ). distinct same (map (λ o. P .keyOf o a) l)) f ∙ m in
-          let t : any (λ k. same k q) (k ∷ (l ∷ ls)) ≡ any (λ x. same (P .keyOf x a) q) ours =
-              ap (any (λ k. same k q)) (sym d) ∙ any-distinct q (map (λ o. P .keyOf o a) ours) ∙ any-map (λ k. same k q) (λ o. P .keyOf o a) ours in
+          let t : anyOf (λ k. same k q) (k ∷ (l ∷ ls)) ≡ anyOf (λ x. same (P .keyOf x a) q) ours =
+              ap (anyOf (λ k. same k q)) (sym d) ∙ any-distinct q (map (λ o. P .keyOf o a) ours) ∙ any-map (λ k. same k q) (λ o. P .keyOf o a) ours in
           plain-followed e (k ∷ (l ∷ ls)) d
           ∙ ap (λ (x : Option (List ℕ)). followNew P (marked 5 x))
             (equal-buckets q (k ∷ (l ∷ ls)) ∙ ap₂ (λ (b : Bool) (x : List ℕ). cond b (some x) none) t (bucket-group q q (eq-eqb (groupOf q) (groupOf q) refl))))
@@ -267,7 +267,7 @@ module _ (P : Program) (a : ℕ) (os : List ℕ) where
 
     choice-more : 0 < length ours → allSame (P .keyOf) a (P .keyOf (getD ours 0 0) a) ours ≡ false
         → followNew P (choose P q (virtual P a os))
-          ≡ followNew P (marked 5 (cond (any (λ x. same (P .keyOf x a) q) ours) (some (likeTo (P .keyOf) false a q ours)) none))
+          ≡ followNew P (marked 5 (cond (anyOf (λ x. same (P .keyOf x a) q) ours) (some (likeTo (P .keyOf) false a q ours)) none))
     unfolding allSame
     choice-more h e = go isListLine refl
       where
@@ -276,16 +276,16 @@ module _ (P : Program) (a : ℕ) (os : List ℕ) where
 
         go : (b : Bool) → isListLine ≡ b
             → followNew P (choose P q (virtual P a os))
-              ≡ followNew P (marked 5 (cond (any (λ x. same (P .keyOf x a) q) ours) (some (likeTo (P .keyOf) false a q ours)) none))
+              ≡ followNew P (marked 5 (cond (anyOf (λ x. same (P .keyOf x a) q) ours) (some (likeTo (P .keyOf) false a q ours)) none))
         go true f = bool-absurd (list-same f (getD ours 0 0) (drop 1 ours) (first ours h)) e′
         go false f = more-followed f (getD ours 0 0) (drop 1 ours) (first ours h) e′
 
     -- a clause is kept where the test passes somewhere
-    any-length : (t : ℕ → Bool) (l : List ℕ) → any t l ≡ ltb 0 (length (keep t l))
+    any-length : (t : ℕ → Bool) (l : List ℕ) → anyOf t l ≡ ltb 0 (length (keep t l))
     any-length t [] = refl
     any-length t (x ∷ l) = go (t x) (any-length t l)
       where
-        go : (b : Bool) → any t l ≡ ltb 0 (length (keep t l)) → b || any t l ≡ ltb 0 (length (add b x (keep t l)))
+        go : (b : Bool) → anyOf t l ≡ ltb 0 (length (keep t l)) → b || anyOf t l ≡ ltb 0 (length (add b x (keep t l)))
         go true ih = sym (lt-ltb 0 (suc (length (keep t l))) (omega arith))
         go false ih = ih
 

@@ -13,7 +13,7 @@ use borrow.Author.Tests.{eqb-true, ne-eqb}
 use Rattle.indexing_iter.specs.declared.OptArgIndexKey.{OptArgIndexKey as Key}
 use Rattle.indexing_iter.specs.Keys.{groupOf, isOpen, same}
 use Rattle.indexing_iter.specs.Clauses.{known}
-use Rattle.indexing.specs.Lists.{add, keep, any, every}
+use Rattle.indexing.specs.Lists.{add, keep, anyOf, every}
 use Rattle.indexing.specs.Build.{single}
 use Rattle.indexing.proofs.BridgeLists.{keep-append}
 use Rattle.indexing.proofs.Lists.{every-keep}
@@ -86,11 +86,11 @@ known-at p (x ∷ l) (suc i) e h = known-at p l i (and-true (p x) (every p l) e 
 pub open-step : (K : ℕ → ℕ → Key) (a : ℕ) (l : List ℕ) (i : ℕ) → i < length l
     → anyOpen K a (drop i l) ≡ isOpen (K (getD l i 0) a) || anyOpen K a (drop (i + 1) l)
 unfolding anyOpen
-open-step K a l i h = ap (any (λ o. isOpen (K o a))) (rest-step l i 0 h)
+open-step K a l i h = ap (anyOf (λ o. isOpen (K o a))) (rest-step l i 0 h)
 
 pub open-done : (K : ℕ → ℕ → Key) (a : ℕ) (l : List ℕ) (i : ℕ) → length l ≤ i → anyOpen K a (drop i l) ≡ false
 unfolding anyOpen
-open-done K a l i h = ap (any (λ o. isOpen (K o a))) (drop-of-length-le l h)
+open-done K a l i h = ap (anyOf (λ o. isOpen (K o a))) (drop-of-length-le l h)
 
 pub same-step : (K : ℕ → ℕ → Key) (a : ℕ) (k : Key) (l : List ℕ) (i : ℕ) → i < length l
     → allSame K a k (drop i l) ≡ same (K (getD l i 0) a) k && allSame K a k (drop (i + 1) l)

@@ -6,7 +6,7 @@ use mathlib.Core.List.{List, [], _∷_, map}
 use Rattle.indexing_iter.specs.declared.OptArgIndexKey.{OptArgIndexKey as Key}
 use Rattle.indexing_iter.specs.Keys.{same}
 use Rattle.indexing_iter.proofs.SameKeys.{same-eq, same-sym}
-use Rattle.indexing.specs.Lists.{add, keep, any, every, distinct}
+use Rattle.indexing.specs.Lists.{add, keep, anyOf, every, distinct}
 use Rattle.indexing.proofs.BridgeLists.{keep-within}
 use Rattle.indexing.proofs.Lists.{any-keep}
 use Rattle.indexing.proofs.Tests.{bool-absurd, both}
@@ -79,7 +79,7 @@ module _ {A B : Type 0} where
       go true ih = ap (λ (l : List B). f x ∷ l) ih
       go false ih = ih
 
-  pub any-map : (t : B → Bool) (f : A → B) (xs : List A) → any t (map f xs) ≡ any (λ x. t (f x)) xs
+  pub any-map : (t : B → Bool) (f : A → B) (xs : List A) → anyOf t (map f xs) ≡ anyOf (λ x. t (f x)) xs
   any-map t f [] = refl
   any-map t f (x ∷ xs) = ap (λ (b : Bool). t (f x) || b) (any-map t f xs)
 
@@ -106,7 +106,7 @@ keep-distinct p (k ∷ ks) = go (p k) refl (keep-distinct p ks)
     go true e ih = ap (λ (l : List Key). k ∷ l) (keep-swap p (λ l. not (same k l)) (distinct same ks) ∙ ap (keep (λ l. not (same k l))) ih)
     go false e ih = keep-within p (λ l. not (same k l)) (distinct same ks) (λ l f. left (same k l) e l refl f) ∙ ih
 
-pub any-distinct : (q : Key) (ks : List Key) → any (λ k. same k q) (distinct same ks) ≡ any (λ k. same k q) ks
+pub any-distinct : (q : Key) (ks : List Key) → anyOf (λ k. same k q) (distinct same ks) ≡ anyOf (λ k. same k q) ks
 any-distinct q [] = refl
 any-distinct q (k ∷ ks) = go (same k q) refl (any-distinct q ks)
   where
@@ -117,8 +117,8 @@ any-distinct q (k ∷ ks) = go (same k q) refl (any-distinct q ks)
         turn true e = refl
         turn false e = bool-absurd refl e
 
-    go : (b : Bool) → same k q ≡ b → any (λ l. same l q) (distinct same ks) ≡ any (λ l. same l q) ks
-        → b || any (λ l. same l q) (keep (λ l. not (same k l)) (distinct same ks)) ≡ b || any (λ l. same l q) ks
+    go : (b : Bool) → same k q ≡ b → anyOf (λ l. same l q) (distinct same ks) ≡ anyOf (λ l. same l q) ks
+        → b || anyOf (λ l. same l q) (keep (λ l. not (same k l)) (distinct same ks)) ≡ b || anyOf (λ l. same l q) ks
     go true e ih = refl
     go false e ih = any-keep (λ l. same l q) (λ l. not (same k l)) (distinct same ks) (other e) ∙ ih
 

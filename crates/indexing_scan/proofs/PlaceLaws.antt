@@ -12,7 +12,7 @@ use lib.Dec.{eqb}
 use lib.ListN.{length, getD, take, drop, length-append, length-drop, length-map}
 use lib.Seq.{slice, length-take-le, take-take, take-add, take-at, drop-at, drop-drop, drop-append-add, drop-append-seam, take-append-seam, getD-drop}
 use Rattle.records.specs.declared.Rec.{Rec}
-use Rattle.records.specs.Records.{none}
+use Rattle.records.specs.Records.{zeroRec}
 use Rattle.indexing.proofs.Lists.{All, all-append}
 use Rattle.indexing.proofs.Reading.{FitEntry}
 use Rattle.indexing.proofs.Tests.{bool-absurd}
@@ -141,8 +141,8 @@ part-first : (l : List Rec) (f t n : ℕ) → t ≤ n → slice f t l ≡ slice 
 part-first l f t n h = ap (drop f) (sym (take-take t n l h))
 
 -- the record at a place is the first of those from there on
-front-is : (l : List Rec) (p : ℕ) → getD l p none ≡ getD (drop p l) 0 none
-front-is l p = ap (λ (k : ℕ). getD l k none) (sym (add-zero p)) ∙ sym (getD-drop p l 0 none)
+front-is : (l : List Rec) (p : ℕ) → getD l p zeroRec ≡ getD (drop p l) 0 zeroRec
+front-is l p = ap (λ (k : ℕ). getD l k zeroRec) (sym (add-zero p)) ∙ sym (getD-drop p l 0 zeroRec)
 
 -- ---- what is known at a place
 
@@ -174,8 +174,8 @@ module _ {m : ℕ} {idx : Index} {rs : List Rec} {l : ℕ} where
     pub at-below : p < length rs
     at-below = omega (arith, left-length at, ap length starts)
 
-    pub at-record : getD rs p none ≡ headRec t
-    at-record = front-is rs p ∙ ap (λ (x : List Rec). getD x 0 none) (at .rest ∙ starts)
+    pub at-record : getD rs p zeroRec ≡ headRec t
+    at-record = front-is rs p ∙ ap (λ (x : List Rec). getD x 0 zeroRec) (at .rest ∙ starts)
 
     items-run : upTo (leaves Items) (drop (p + 1) rs) ≡ length (itemRecs t)
     unfolding leaves
@@ -269,13 +269,13 @@ module _ {m : ℕ} {idx : Index} {rs : List Rec} {l : ℕ} where
         part-is rs q k (at .within) ∙ ap₂ take (e ∙ offsets-run) (at .rest)
         ∙ take-at cs (records m (suc l) (drop (suc l) idx)) (length (lineAt idx l .choices)) (length-map (lineAt idx l .choices) choiceRec)
 
-    pub at-none : isTable (getD rs q none .kind) ≡ false
+    pub at-none : isTable (getD rs q zeroRec .kind) ≡ false
     at-none = go (lineAt idx l .choices) (drop (suc l) idx) (at .rest)
       where
-        go : (cs : List Choice) (xs : Index) → drop q rs ≡ map choiceRec cs ++ records m (suc l) xs → isTable (getD rs q none .kind) ≡ false
-        go (c ∷ cs) xs e = ap (λ (x : Rec). isTable (x .kind)) (front-is rs q ∙ ap (λ (x : List Rec). getD x 0 none) e)
-        go [] (x ∷ xs) e = ap (λ (x : Rec). isTable (x .kind)) (front-is rs q ∙ ap (λ (x : List Rec). getD x 0 none) e)
-        go [] [] e = ap (λ (x : Rec). isTable (x .kind)) (front-is rs q ∙ ap (λ (x : List Rec). getD x 0 none) e)
+        go : (cs : List Choice) (xs : Index) → drop q rs ≡ map choiceRec cs ++ records m (suc l) xs → isTable (getD rs q zeroRec .kind) ≡ false
+        go (c ∷ cs) xs e = ap (λ (x : Rec). isTable (x .kind)) (front-is rs q ∙ ap (λ (x : List Rec). getD x 0 zeroRec) e)
+        go [] (x ∷ xs) e = ap (λ (x : Rec). isTable (x .kind)) (front-is rs q ∙ ap (λ (x : List Rec). getD x 0 zeroRec) e)
+        go [] [] e = ap (λ (x : Rec). isTable (x .kind)) (front-is rs q ∙ ap (λ (x : List Rec). getD x 0 zeroRec) e)
 
 -- ---- what the record at a place tells of the tables left
 
@@ -296,35 +296,35 @@ pub record LeftDead (ts : List Table) (a : ℕ) : Type 0 where
 
 module _ {m : ℕ} {idx : Index} {rs : List Rec} {l : ℕ} {p : ℕ} where
   -- a kind that is none of a table's, and one that is: what is left
-  other-kind : {t : Table} {ts : List Table} (k : ℕ) → At m idx rs l (t ∷ ts) p → getD rs p none .kind ≡ k → headRec t .kind ≡ k
+  other-kind : {t : Table} {ts : List Table} (k : ℕ) → At m idx rs l (t ∷ ts) p → getD rs p zeroRec .kind ≡ k → headRec t .kind ≡ k
   other-kind k at e = sym (ap (λ (r : Rec). r .kind) (at-record at)) ∙ e
 
-  half-is : {t : Table} {ts : List Table} → At m idx rs l (t ∷ ts) p → getD rs p none .half ≡ headRec t .half
+  half-is : {t : Table} {ts : List Table} → At m idx rs l (t ∷ ts) p → getD rs p zeroRec .half ≡ headRec t .half
   half-is at = ap (λ (r : Rec). r .half) (at-record at)
 
   -- kind 2
-  pub at-switch : (ts : List Table) → At m idx rs l ts p → getD rs p none .kind ≡ 2 → LeftSwitch ts (getD rs p none .half)
+  pub at-switch : (ts : List Table) → At m idx rs l ts p → getD rs p zeroRec .kind ≡ 2 → LeftSwitch ts (getD rs p zeroRec .half)
   at-switch [] at e = bool-absurd (ap isTable e) (at-none at)
   at-switch (switch a es ∷ ts) at e = record { entries = es; later = ts; is = ap (λ (x : ℕ). switch x es ∷ ts) (sym (half-is at)) }
   at-switch (onDemand a ∷ ts) at e = absurd (omega (arith, other-kind 2 at e))
   at-switch (dead a os ∷ ts) at e = absurd (omega (arith, other-kind 2 at e))
 
   -- kind 3
-  pub at-demand : (ts : List Table) → At m idx rs l ts p → getD rs p none .kind ≡ 3 → LeftDemand ts (getD rs p none .half)
+  pub at-demand : (ts : List Table) → At m idx rs l ts p → getD rs p zeroRec .kind ≡ 3 → LeftDemand ts (getD rs p zeroRec .half)
   at-demand [] at e = bool-absurd (ap isTable e) (at-none at)
   at-demand (switch a es ∷ ts) at e = absurd (omega (arith, other-kind 3 at e))
   at-demand (onDemand a ∷ ts) at e = record { later = ts; is = ap (λ (x : ℕ). onDemand x ∷ ts) (sym (half-is at)) }
   at-demand (dead a os ∷ ts) at e = absurd (omega (arith, other-kind 3 at e))
 
   -- kind 4
-  pub at-dead : (ts : List Table) → At m idx rs l ts p → getD rs p none .kind ≡ 4 → LeftDead ts (getD rs p none .half)
+  pub at-dead : (ts : List Table) → At m idx rs l ts p → getD rs p zeroRec .kind ≡ 4 → LeftDead ts (getD rs p zeroRec .half)
   at-dead [] at e = bool-absurd (ap isTable e) (at-none at)
   at-dead (switch a es ∷ ts) at e = absurd (omega (arith, other-kind 4 at e))
   at-dead (onDemand a ∷ ts) at e = absurd (omega (arith, other-kind 4 at e))
   at-dead (dead a os ∷ ts) at e = record { clauses = os; later = ts; is = ap (λ (x : ℕ). dead x os ∷ ts) (sym (half-is at)) }
 
   -- any other kind
-  pub at-last : (ts : List Table) → At m idx rs l ts p → isTable (getD rs p none .kind) ≡ false → ts ≡ []
+  pub at-last : (ts : List Table) → At m idx rs l ts p → isTable (getD rs p zeroRec .kind) ≡ false → ts ≡ []
   at-last [] at e = refl
   at-last (switch a es ∷ ts) at e = bool-absurd (ap (λ (r : Rec). isTable (r .kind)) (at-record at)) e
   at-last (onDemand a ∷ ts) at e = bool-absurd (ap (λ (r : Rec). isTable (r .kind)) (at-record at)) e

@@ -15,12 +15,13 @@ use Rattle.indexing.proofs.Order.{Args, args-later, Beyond, beyond-ext, beyond-
 use Rattle.indexing.proofs.Tests.{eqb-other}
 use Rattle.indexing.specs.Build.{Program, laterTable}
 use Rattle.indexing.specs.Lines.{Ptr, Table, Index, lineAt, argOf, find}
+use Rattle.indexing.specs.Expand.{State}
 use Rattle.indexing_scan.proofs.Choose.{Ways, ways-none, ways-some, choose-linked}
 use Rattle.indexing_scan.proofs.Same.{Alike, skips, passes, stops, outs, gotos, moves-alike}
 use Rattle.indexing_scan.proofs.Walks.{Turn, still, quiet, stores, refuses, turn, settle-quiet, step}
 use Rattle.indexing_scan.specs.Agree.{Call}
 use Rattle.indexing_scan.specs.Steps.{actOn, placeOf, tablesOf, tablesNext, stepsFrom, steps}
-use Rattle.indexing_scan.specs.Walk.{Chosen, Place, line, unstored, Move, skip, act, follow, ending, tableAt, move, State, Result, lookAt}
+use Rattle.indexing_scan.specs.Walk.{Chosen, Place, line, unstored, Move, skip, act, follow, ending, tableAt, move, Result, lookAt}
 use Rattle.indexing_scan.specs.Walk.{result, lineNumber, due, settle, walkFrom, walk}
 
 -- tables with greater arguments are not for a smaller one

@@ -11,7 +11,7 @@ use lib.Dec.{eqb}
 use lib.ListN.{length, getD, take, drop, set}
 use lib.Seq.{slice, slice-empty, slice-cons, length-slice, length-take-le, take-suc, drop-cons, drop-append-le, append-snoc, set-at}
 use Rattle.records.specs.declared.Rec.{Rec}
-use Rattle.records.specs.Records.{none}
+use Rattle.records.specs.Records.{zeroRec}
 use Rattle.indexing.specs.Columns.{wordsOf}
 use Rattle.indexing_scan.specs.Places.{upTo, countOf, throughLine}
 
@@ -49,9 +49,9 @@ unfolding throughLine
 line-end d l i n e = ap (throughLine d) (slice-none l i n e)
 
 -- at place i of the first n records stands r
-module _ (l : List Rec) (i n : ℕ) (r : Rec) (h : i < n) (k : n ≤ length l) (e : r ≡ getD l i none) where
+module _ (l : List Rec) (i n : ℕ) (r : Rec) (h : i < n) (k : n ≤ length l) (e : r ≡ getD l i zeroRec) where
   pub at-front : slice i n l ≡ r ∷ slice (i + 1) n l
-  at-front = rw (e, add-one i) (slice-cons i n l none h k)
+  at-front = rw (e, add-one i) (slice-cons i n l zeroRec h k)
 
   pub upto-turn : (t : Rec → Bool) (b : Bool) → t r ≡ b → upTo t (slice i n l) ≡ cond b 0 (upTo t (slice (i + 1) n l) + 1)
   upto-turn t b f = ap (upTo t) at-front ∙ upto-cons t r (slice (i + 1) n l) b f
@@ -79,7 +79,7 @@ module _ {t : Rec → Bool} {l : List Rec} {p n i : ℕ} (s : Seeks t l p n i) w
   pub seeks-none : n ≤ i → n ≡ p + upTo t (slice p n l)
   seeks-none h = omega (arith, s .to, s .first, upto-end t l i n (omega (arith, s .to)))
 
-  module _ (k : n ≤ length l) (h : i < n) (r : Rec) (e : r ≡ getD l i none) where
+  module _ (k : n ≤ length l) (h : i < n) (r : Rec) (e : r ≡ getD l i zeroRec) where
     pub seeks-next : t r ≡ false → Seeks t l p n (i + 1)
     seeks-next f = record {
       from = omega (arith, s .from);
@@ -110,7 +110,7 @@ pub copied-start : (l : List Rec) (q : ℕ) (d : List ℕ) → d ≡ copied l q 
 unfolding copied wordsOf
 copied-start l q d = sym (ap (λ (rs : List Rec). wordsOf rs ++ d) (slice-none l q (q + 0) (sym (add-zero q))))
 
-pub copied-more : (l : List Rec) (q : ℕ) (d : List ℕ) (i : ℕ) (r : Rec) → q + i < length l → i < length d → r ≡ getD l (q + i) none
+pub copied-more : (l : List Rec) (q : ℕ) (d : List ℕ) (i : ℕ) (r : Rec) → q + i < length l → i < length d → r ≡ getD l (q + i) zeroRec
     → set (copied l q d i) i (r .word) ≡ copied l q d (i + 1)
 unfolding copied wordsOf
 copied-more l q d i r h k e =
@@ -119,8 +119,8 @@ copied-more l q d i r h k e =
     let m : q ≤ length (take (q + i) l) = omega (arith, length-take-le (q + i) l (omega arith)) in
     let s : slice q (q + (i + 1)) l ≡ w ++ (r ∷ []) =
     ap (λ (x : ℕ). drop q (take x l)) (let z : q + (i + 1) ≡ suc (q + i) = omega arith in z)
-    ∙ ap (drop q) (take-suc l (q + i) none h)
-    ∙ drop-append-le q (take (q + i) l) (getD l (q + i) none ∷ []) m
+    ∙ ap (drop q) (take-suc l (q + i) zeroRec h)
+    ∙ drop-append-le q (take (q + i) l) (getD l (q + i) zeroRec ∷ []) m
     ∙ ap (λ (x : Rec). w ++ (x ∷ [])) (sym e) in
     ap (λ (x : List ℕ). set (wordsOf w ++ x) i (r .word)) (drop-cons d i 0 k)
     ∙ set-at (wordsOf w) (getD d i 0) (drop (suc i) d) (r .word) i n

@@ -14,7 +14,7 @@ use borrow.Author.Tests.{not-true, not-false}
 use Rattle.indexing_iter.specs.declared.OptArgIndexKey.{OptArgIndexKey as Key}
 use Rattle.indexing_iter.specs.Clauses.{known}
 use Rattle.indexing_iter.specs.Keys.{isOpen}
-use Rattle.indexing.specs.Lists.{add, any, every}
+use Rattle.indexing.specs.Lists.{add, anyOf, every}
 use Rattle.indexing.specs.Lines.{dead}
 use Rattle.indexing.specs.Build.{Program, single, openAt, newTable, virtual}
 use Rattle.indexing.proofs.Tests.{and-true}
@@ -74,12 +74,12 @@ module _ (P : Program) (a : ℕ) (q : Key) (os : List ℕ) where
   unfolding anyOpen
   by-open {X} f x y e g = go os
     where
-      go : (l : List ℕ) → f (openAt P a l) ≡ cond (any (λ o. isOpen (P .keyOf o a)) l) x y
+      go : (l : List ℕ) → f (openAt P a l) ≡ cond (anyOf (λ o. isOpen (P .keyOf o a)) l) x y
       go [] = e
       go (o ∷ l) = one (isOpen (P .keyOf o a)) (go l)
         where
-          one : (b : Bool) → f (openAt P a l) ≡ cond (any (λ o. isOpen (P .keyOf o a)) l) x y
-              → f (add b o (openAt P a l)) ≡ cond (b || any (λ o. isOpen (P .keyOf o a)) l) x y
+          one : (b : Bool) → f (openAt P a l) ≡ cond (anyOf (λ o. isOpen (P .keyOf o a)) l) x y
+              → f (add b o (openAt P a l)) ≡ cond (b || anyOf (λ o. isOpen (P .keyOf o a)) l) x y
           one true ih = g o (openAt P a l)
           one false ih = ih
 

@@ -7,9 +7,10 @@ use Rattle.indexing_iter.specs.declared.OptArgIndexKey.{OptArgIndexKey as Key}
 use Rattle.indexing.proofs.Expand.{no-switch}
 use Rattle.indexing.specs.Build.{Program, laterTable}
 use Rattle.indexing.specs.Lines.{Index}
+use Rattle.indexing.specs.Expand.{State}
 use Rattle.indexing_scan.proofs.Same.{Alike, skips, passes, stops, outs, gotos, act-alike, moves-alike}
 use Rattle.indexing_scan.specs.Agree.{Call}
-use Rattle.indexing_scan.specs.Walk.{Place, unstored, Move, Answer, look, act, move, answerFrom, State, Result, lookAt, result, walkFrom}
+use Rattle.indexing_scan.specs.Walk.{Place, unstored, Move, Answer, look, act, move, answerFrom, Result, lookAt, result, walkFrom}
 
 -- places that are not stored
 data Off : Place → Place → Type 0 where

@@ -15,13 +15,13 @@ use Rattle.indexing.proofs.Grown.{Grown, grown-same, grown-more, grown-trans, g
 use Rattle.indexing.proofs.Pointers.{Inside, Closed, closed-expand}
 use Rattle.indexing.proofs.Tests.{T-true, true-T, and-true}
 use Rattle.indexing.specs.Build.{Program, laterTable}
-use Rattle.indexing.specs.Expand.{expand}
+use Rattle.indexing.specs.Expand.{expand, State, attempt}
 use Rattle.indexing.specs.Lines.{Table, switch, onDemand, dead, Index, lineAt, find, size}
 use Rattle.indexing_scan.proofs.Choose.{choose-linked}
 use Rattle.indexing_scan.proofs.Same.{Alike, skips, passes, stops, outs, gotos, act-alike, follow-alike, moves-alike, kept, same-from}
 use Rattle.indexing_scan.specs.Agree.{Call}
-use Rattle.indexing_scan.specs.Walk.{Place, line, unstored, Move, skip, stop, pass, out, goto, look, act, move, answerFrom, State, Result}
-use Rattle.indexing_scan.specs.Walk.{lookAt, result, isOnDemand, due, attempt, settle, walkFrom}
+use Rattle.indexing_scan.specs.Walk.{Place, line, unstored, Move, skip, stop, pass, out, goto, look, act, move, answerFrom, Result}
+use Rattle.indexing_scan.specs.Walk.{lookAt, result, isOnDemand, due, settle, walkFrom}
 
 -- a place that the index has
 pub data Has (idx : Index) : Place → Place → Type 0 where
@@ -88,7 +88,7 @@ module _ (P : Program) where
         fits w c d true e = stores d (leb→le (size (expand P (s .index) l a)) cap (true-T e))
         fits w c d false e = refuses w d (nleb→lt (size (expand P (s .index) l a)) cap (rw e tt))
 
-        go : (x : Bool) → s .storing && due (s .index) l a q ≡ x → Turn s a q (line l) (cond x (attempt P cap (s .index) (expand P (s .index) l a)) s)
+        go : (x : Bool) → s .storing && due (s .index) l a q ≡ x → Turn s a q (line l) (cond x (attempt cap (s .index) (expand P (s .index) l a)) s)
         go false e = quiet e
         go true e =
             let w = and-true (s .storing) (due (s .index) l a q) e in
@@ -158,7 +158,7 @@ module _ (P : Program) (cap : ℕ) where
   pub settle-quiet : (s : State) (l a : ℕ) (q : Key) → due (s .index) l a q ≡ false → settle P cap s (line l) a q ≡ s
   settle-quiet s l a q e = go (s .storing)
     where
-      go : (x : Bool) → cond (x && due (s .index) l a q) (attempt P cap (s .index) (expand P (s .index) l a)) s ≡ s
+      go : (x : Bool) → cond (x && due (s .index) l a q) (attempt cap (s .index) (expand P (s .index) l a)) s ≡ s
       go true = rw e
       go false = refl
 

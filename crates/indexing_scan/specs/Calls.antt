@@ -6,13 +6,13 @@ use mathlib.Core.List.{List, [], _∷_, _++_}
 use lib.Dec.{eqb, leb, ltb}
 use lib.ListN.{length, getD, take, drop}
 use Rattle.records.specs.declared.Rec.{Rec}
-use Rattle.records.specs.Records.{recordsOf, none}
+use Rattle.records.specs.Records.{recordsOf, zeroRec}
 use Rattle.indexing_iter.specs.declared.Settings.{Settings}
 use Rattle.indexing_iter.specs.declared.Checked.{Checked}
 use Rattle.indexing_iter.specs.declared.Checked.the-variants.{Passed, Refused}
 use Rattle.indexing_iter.specs.Clauses.{offsetsOf, known}
-use Rattle.indexing_iter.specs.Checks.{orElse, refuse, checkCode}
-use Rattle.indexing.specs.Lists.{keep, any, every}
+use Rattle.indexing_iter.specs.Checks.{otherwise, refuse, checkCode}
+use Rattle.indexing.specs.Lists.{keep, anyOf, every}
 use Rattle.indexing.specs.Lines.{size}
 use Rattle.indexing.specs.Reading.{keyFrom, parse}
 use Rattle.indexing.specs.Build.{programOf}
@@ -36,7 +36,7 @@ checkCall arity call = refuse (not (eqb (length call) (16 * arity) && every argu
 
 -- section 5: the key of each argument, counted from 1
 unfoldable pub callOf : List ℕ → Call
-callOf call a = let r = getD (recordsOf call) (a - 1) none in keyFrom (r .sub) (r .half) (r .long)
+callOf call a = let r = getD (recordsOf call) (a - 1) zeroRec in keyFrom (r .sub) (r .half) (r .long)
 
 -- 11: out shorter than the starts
 abbrev pub checkOut : List ℕ → List ℕ → Checked
@@ -92,15 +92,15 @@ resultOf cls code starts S call index count =
 unfoldable pub walkCall : (ℕ → ℕ) → List ℕ → List ℕ → Settings → List ℕ → List ℕ → ℕ → List ℕ → Walked
 walkCall cls code starts S call index count out =
     walkedBy
-    (orElse (checkCode cls (S .arity) code starts)
-    (orElse (checkCall (S .arity) call)
-    (orElse (checkOut starts out)
+    (otherwise (checkCode cls (S .arity) code starts)
+    (otherwise (checkCall (S .arity) call)
+    (otherwise (checkOut starts out)
     (checkIndex S starts index count))))
     S (resultOf cls code starts S call index count) index out
 
 -- the witness refuses with 1, 3 to 7, 10
 unfoldable pub witnessChecks : (ℕ → ℕ) → List ℕ → List ℕ → Settings → List ℕ → Checked
-witnessChecks cls code starts S call = orElse (checkCode cls (S .arity) code starts) (checkCall (S .arity) call)
+witnessChecks cls code starts S call = otherwise (checkCode cls (S .arity) code starts) (checkCall (S .arity) call)
 
 -- the offsets of the clauses that agree with the call
 unfoldable pub agreeing : (ℕ → ℕ) → List ℕ → List ℕ → Settings → List ℕ → List ℕ
@@ -109,4 +109,4 @@ agreeing cls code starts S call = keep (agree (programOf cls S (recordsOf code) 
 -- the witness: some agreeing clause's offset, 0 if there is none
 abbrev pub isWitness : List ℕ → ℕ → Bool
 isWitness [] o = eqb o 0
-isWitness (x ∷ xs) o = any (eqb o) (x ∷ xs)
+isWitness (x ∷ xs) o = anyOf (eqb o) (x ∷ xs)

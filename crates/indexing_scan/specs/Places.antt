@@ -10,7 +10,7 @@ use Prim.Native.Nat.{ℕ, zero, suc, _+_, _≤_, _<_}
 use lib.Dec.{eqb}
 use lib.ListN.{length, drop}
 use Rattle.records.specs.declared.Rec.{Rec}
-use Rattle.records.specs.Records.{rec}
+use Rattle.records.specs.Records.{recOf}
 use Rattle.indexing_iter.specs.declared.OptArgIndexKey.{OptArgIndexKey as Key}
 use Rattle.indexing_iter.specs.Keys.{groupOf, same}
 use Rattle.indexing.specs.Lists.{keep}
@@ -79,9 +79,9 @@ offsetsAt rs q = upTo (leaves Offsets) (drop q rs)
 
 -- section 3: a table's own record
 abbrev pub headRec : Table → Rec
-headRec (switch a es) = rec 2 0 a 0 0
-headRec (onDemand a) = rec 3 0 a 0 0
-headRec (dead a os) = rec 4 0 a 0 0
+headRec (switch a es) = recOf 2 0 a 0 0
+headRec (onDemand a) = recOf 3 0 a 0 0
+headRec (dead a os) = recOf 4 0 a 0 0
 
 -- a walk in line l of the index, with the tables ts of that line left, stands at place p of the records rs: from there on stand
 -- the records of ts, those of the line's offsets, and those of the later lines

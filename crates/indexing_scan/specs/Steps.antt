@@ -7,8 +7,9 @@ use mathlib.Core.Option.{Option, none, some}
 use Prim.Native.Nat.{ℕ, zero, suc, _-_}
 use Rattle.indexing.specs.Lines.{Table, argOf, Index, lineAt}
 use Rattle.indexing.specs.Build.{Program, laterTables}
+use Rattle.indexing.specs.Expand.{State}
 use Rattle.indexing_scan.specs.Agree.{Call}
-use Rattle.indexing_scan.specs.Walk.{Place, line, unstored, Move, skip, pass, stop, out, goto, fail, external, move, ending, State, Result}
+use Rattle.indexing_scan.specs.Walk.{Place, line, unstored, Move, skip, pass, stop, out, goto, fail, external, move, ending, Result}
 use Rattle.indexing_scan.specs.Walk.{lookAt, result, lineNumber, settle}
 
 -- section 5: acts on a move; k none goes on to the next table of the line, k (some q) to the first table of q

@@ -9,7 +9,7 @@ use lib.ListN.{length, take}
 use Rattle.indexing_iter.specs.declared.OptArgIndexKey.{OptArgIndexKey as Key}
 use Rattle.indexing_iter.specs.Keys.{groupOf, isOpen, same}
 use Rattle.indexing_iter.specs.Clauses.{known}
-use Rattle.indexing.specs.Lists.{keep, any, every}
+use Rattle.indexing.specs.Lists.{keep, anyOf, every}
 use Rattle.indexing_scan.specs.declared.unstored.Narrowed.{Narrowed}
 use Rattle.indexing_scan.specs.declared.unstored.Narrowed.the-variants.{NoTable, Passed, Failed, Single, Bucket}
 use Rattle.indexing_scan.specs.declared.unstored.Finished.{Finished}
@@ -48,7 +48,7 @@ pub record Held (starts : List ℕ) (m : ℕ) (old new : List ℕ) (r : Narrowed
 
 -- some clause has no key at argument a
 unfoldable pub anyOpen : (ℕ → ℕ → Key) → ℕ → List ℕ → Bool
-anyOpen K a os = any (λ o. isOpen (K o a)) os
+anyOpen K a os = anyOf (λ o. isOpen (K o a)) os
 
 -- a clause's key k is one of q's group, or equal to q
 abbrev pub alike : Bool → Key → Key → Bool

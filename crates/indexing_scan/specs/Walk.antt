@@ -4,13 +4,13 @@ use mathlib.Core.Bool.{Bool, true, false, not, cond, _&&_}
 use mathlib.Core.List.{List, [], _∷_}
 use mathlib.Core.Option.{Option, none, some}
 use Prim.Native.Nat.{ℕ, zero, suc, _+_}
-use lib.Dec.{eqb, leb}
+use lib.Dec.{eqb}
 use Rattle.indexing_iter.specs.declared.OptArgIndexKey.{OptArgIndexKey as Key}
 use Rattle.indexing_iter.specs.Keys.{groupOf, isOpen, same}
 use Rattle.indexing.specs.Lists.{keep}
-use Rattle.indexing.specs.Lines.{Ptr, ext, int, Entry, Table, switch, onDemand, dead, Index, lineAt, offs, find, size}
+use Rattle.indexing.specs.Lines.{Ptr, ext, int, Entry, Table, switch, onDemand, dead, Index, lineAt, offs, find}
 use Rattle.indexing.specs.Build.{Program, openAt, laterTable, lone, virtual}
-use Rattle.indexing.specs.Expand.{expand}
+use Rattle.indexing.specs.Expand.{expand, State, attempt}
 use Rattle.indexing_scan.specs.Agree.{Call}
 
 -- section 5, what was done at a table looked at, and its argument. 1: unbound, next table. 2: dead, or expanded to dead, next table.
@@ -156,11 +156,6 @@ module _ (P : Program) where
     abbrev pub answer : Index → Answer
     answer idx = answerFrom (P .arity) 1 idx (line 0)
 
--- section 5, the state of a walk: whether expansions are stored, and the index
-pub record State : Type 0 where
-  pub storing : Bool
-  pub index : Index
-
 -- section 5, what a walk gives back: answer, line number, whether all was stored, the index left
 pub record Result : Type 0 where
   pub found : Answer
@@ -193,14 +188,10 @@ abbrev pub due : Index → ℕ → ℕ → Key → Bool
 due idx l a q = not (isOpen q) && isOnDemand (find a (lineAt idx l .tables))
 
 module _ (P : Program) (cap : ℕ) where
-  -- section 5: an expansion that is due is stored if it is within the capacity; otherwise it and the later ones aren't
-  abbrev pub attempt : Index → Index → State
-  attempt idx new = cond (leb (size new) cap) (record { storing = true; index = new }) (record { storing = false; index = idx })
-
   -- section 5: the state in which the table for a is looked at
   abbrev pub settle : State → Place → ℕ → Key → State
   settle s (unstored os) a q = s
-  settle s (line l) a q = cond (s .storing && due (s .index) l a q) (attempt (s .index) (expand P (s .index) l a)) s
+  settle s (line l) a q = cond (s .storing && due (s .index) l a q) (attempt cap (s .index) (expand P (s .index) l a)) s
 
   module _ (Q : Call) where
     -- section 5, the walk at n arguments from a on: expands what is due, looks at that place

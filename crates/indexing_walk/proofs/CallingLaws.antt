@@ -13,7 +13,7 @@ use Rattle.indexing_iter.specs.declared.Checked.{Checked}
 use Rattle.indexing_iter.specs.declared.Checked.the-variants.{Passed, Refused}
 use Rattle.indexing_iter.specs.Classes.{classOf}
 use Rattle.indexing_iter.specs.Clauses.{known}
-use Rattle.indexing_iter.specs.Checks.{numberOf, orElse, checkCode}
+use Rattle.indexing_iter.specs.Checks.{numberOf, otherwise, checkCode}
 use Rattle.indexing_iter.proofs.KeyLaws.{not-refused}
 use Rattle.indexing.proofs.Tests.{and-true}
 use Rattle.indexing.specs.Builder.{capacityOf}
@@ -69,24 +69,24 @@ module _ (code starts : List ℕ) (S : Settings) (call index : List ℕ) (count 
   module _ (c : Checked) (n : ℕ) (r : WalkAnswer) (e : c ≡ Refused n) (f : r ≡ RefusedBy (numberOf c)) where
     pub refused-1 : c ≡ first → walkedOf r index out ≡ walkCall classOf code starts S call index count out
     unfolding walkCall
-    refused-1 a = refuses-so c n r e f ∙ ap (λ (x : Checked). walkedBy (orElse x (orElse second (orElse third fourth))) S W index out) (sym e ∙ a)
+    refused-1 a = refuses-so c n r e f ∙ ap (λ (x : Checked). walkedBy (otherwise x (otherwise second (otherwise third fourth))) S W index out) (sym e ∙ a)
 
     pub refused-2 : first ≡ Passed → c ≡ second → walkedOf r index out ≡ walkCall classOf code starts S call index count out
     unfolding walkCall
     refused-2 a b = refuses-so c n r e f
-        ∙ ap₂ (λ (x y : Checked). walkedBy (orElse x (orElse y (orElse third fourth))) S W index out) (sym a) (sym e ∙ b)
+        ∙ ap₂ (λ (x y : Checked). walkedBy (otherwise x (otherwise y (otherwise third fourth))) S W index out) (sym a) (sym e ∙ b)
 
     pub refused-3 : first ≡ Passed → second ≡ Passed → c ≡ third → walkedOf r index out ≡ walkCall classOf code starts S call index count out
     unfolding walkCall
     refused-3 a b d = refuses-so c n r e f
-        ∙ (λ i. walkedBy (orElse (sym a i) (orElse (sym b i) (orElse ((sym e ∙ d) i) fourth))) S W index out)
+        ∙ (λ i. walkedBy (otherwise (sym a i) (otherwise (sym b i) (otherwise ((sym e ∙ d) i) fourth))) S W index out)
 
     pub refused-4 : first ≡ Passed → second ≡ Passed → third ≡ Passed → c ≡ fourth → walkedOf r index out ≡ walkCall classOf code starts S call index count out
     unfolding walkCall
     refused-4 a b d g = refuses-so c n r e f
-        ∙ (λ i. walkedBy (orElse (sym a i) (orElse (sym b i) (orElse (sym d i) ((sym e ∙ g) i)))) S W index out)
+        ∙ (λ i. walkedBy (otherwise (sym a i) (otherwise (sym b i) (otherwise (sym d i) ((sym e ∙ g) i)))) S W index out)
 
   pub accepted : (x : Ended) (index′ out′ : List ℕ) → first ≡ Passed → second ≡ Passed → third ≡ Passed → fourth ≡ Passed
       → toldBy x index′ out′ ≡ walkedBy Passed S W index out → walkedOf (Answered x) index′ out′ ≡ walkCall classOf code starts S call index count out
   unfolding walkCall
-  accepted x index′ out′ a b c d e = e ∙ (λ i. walkedBy (orElse (sym a i) (orElse (sym b i) (orElse (sym c i) (sym d i)))) S W index out)
+  accepted x index′ out′ a b c d e = e ∙ (λ i. walkedBy (otherwise (sym a i) (otherwise (sym b i) (otherwise (sym c i) (sym d i)))) S W index out)

@@ -3,14 +3,14 @@
 use mathlib.Core.Path.{_≡_, refl, sym, ap, ap₂, _∙_, subst}
 use mathlib.Core.Bool.{Bool, false, cond}
 use mathlib.Core.List.{List, [], _∷_, _++_}
-use mathlib.Core.Option.{Option, none as nothing, some}
+use mathlib.Core.Option.{Option, none, some}
 use Prim.Native.Nat.{ℕ, zero, suc, _+_, _-_, _≤_}
 use native.Mathlib.Omega.{arith}
 use lib.Dec.{eqb}
 use lib.ListN.{length, getD, take, drop}
 use lib.Seq.{slice}
 use Rattle.records.specs.declared.Rec.{Rec}
-use Rattle.records.specs.Records.{recordsOf, none}
+use Rattle.records.specs.Records.{recordsOf, zeroRec}
 use Rattle.indexing_iter.specs.declared.OptArgIndexKey.{OptArgIndexKey as Key}
 use Rattle.indexing_iter.specs.declared.Settings.{Settings}
 use Rattle.indexing_iter.specs.Classes.{classOf}
@@ -52,11 +52,11 @@ demand-looks Q a q os (o ∷ opens) = refl
 demand-looks Q a q os [] = go (choose Q q (virtual Q a os))
   where
     into : (h : ℕ) (x : Option ℕ) (os : List ℕ) → skips (enter h x os) ≡ 0
-    into h nothing os = refl
+    into h none os = refl
     into h (some o) os = refl
 
     go : (x : Option (Chosen (List ℕ))) → skips (followNew Q x) ≡ 0
-    go nothing = refl
+    go none = refl
     go (some c) = into (c .how) (lone Q (c .to)) (c .to)
 
 -- at most one table is looked at for an argument
@@ -72,7 +72,7 @@ unfolding answerFrom
 path-few Q K zero a idx p = omega arith
 path-few Q K (suc n) a idx p = act-few a n p (move Q idx p a (K a)) (λ q. answerFrom Q K n (suc a) idx q) (λ q. path-few Q K n (suc a) idx q)
 
-module _ {code starts : List ℕ} {S : Settings} {b : List ℕ} {w : Walking} (ready : Ready code starts S b w) (r : Rec) (is : r ≡ getD (R ready) (w .at) none)
+module _ {code starts : List ℕ} {S : Settings} {b : List ℕ} {w : Walking} (ready : Ready code starts S b w) (r : Rec) (is : r ≡ getD (R ready) (w .at) zeroRec)
     (no-table : isTable (r .kind) ≡ false) where
   none-left : ready .stands .tables ≡ []
   none-left = turn-last ready r is no-table

@@ -9,7 +9,7 @@ use lib.Dec.{eqb}
 use lib.ListN.{length, getD, take}
 use lib.Seq.{length-take-le}
 use Rattle.records.specs.declared.Rec.{Rec}
-use Rattle.records.specs.Records.{recordsOf, none}
+use Rattle.records.specs.Records.{recordsOf, zeroRec}
 use Rattle.indexing_iter.specs.declared.Checked.the-variants.{Passed}
 use Rattle.indexing_iter.specs.declared.Settings.{Settings}
 use Rattle.indexing_iter.specs.Checks.{checkCode}
@@ -23,11 +23,12 @@ use Rattle.indexing.specs.Lines.{Choice, Table, onDemand, argOf, Index, lineAt,
 use Rattle.indexing_builder.proofs.BuilderLaws.{capacity-within}
 use Rattle.well_formed.proofs.Sound.{args-true}
 use Rattle.well_formed.proofs.WellFormed.{args-of, well-orderly}
+use Rattle.indexing.specs.Expand.{State}
 use Rattle.indexing_scan.proofs.Steps.{Left}
 use Rattle.indexing_scan.proofs.PlaceLaws.{at-demand, place-below, LeftDemand}
 use Rattle.indexing_scan.specs.Calls.{callOf}
 use Rattle.indexing_scan.specs.Places.{At}
-use Rattle.indexing_scan.specs.Walk.{line, Move, State, Result, move, settle}
+use Rattle.indexing_scan.specs.Walk.{line, Move, Result, move, settle}
 use Rattle.indexing_walk.specs.declared.Walking.{Walking}
 use Rattle.indexing_walk.specs.Walking.{indexIn, Stands, Comes, restOf, turnsLeft, Went}
 use Rattle.indexing_walk.proofs.WalkLaws.{rest, turns}
@@ -93,7 +94,7 @@ module _ {code starts : List ℕ} {S : Settings} {b : List ℕ} {w : Walking} (r
   pub fewer-turns : (v : Walking) (a : ℕ) → w .from ≤ a → a ≤ S .arity → v .from ≡ a + 1 → turnsLeft S b v < turnsLeft S b w
   unfolding turnsLeft
   fewer-turns v a h k e =
-      omega (arith, e, one (v .storing), one (eqb (getD (take (v .count) (recordsOf b)) (v .at) none .kind) 3))
+      omega (arith, e, one (v .storing), one (eqb (getD (take (v .count) (recordsOf b)) (v .at) zeroRec .kind) 3))
     where
       one : (x : Bool) → cond x 1 0 ≤ 1
       one true = omega arith
@@ -142,14 +143,14 @@ module _ {code starts : List ℕ} {S : Settings} {b : List ℕ} {w : Walking} (r
 -- it is at an on-demand table for argument a
 pub record AtDemand (code starts : List ℕ) (S : Settings) (b : List ℕ) (w : Walking) (a : ℕ) : Type 0 where
   pub ready : Ready code starts S b w
-  pub kind : getD (R ready) (w .at) none .kind ≡ 3
-  pub half : a ≡ getD (R ready) (w .at) none .half
+  pub kind : getD (R ready) (w .at) zeroRec .kind ≡ 3
+  pub half : a ≡ getD (R ready) (w .at) zeroRec .half
 
 module _ {code starts : List ℕ} {S : Settings} {b : List ℕ} {w : Walking} {a : ℕ} (due : AtDemand code starts S b w a) where
   abbrev ready : Ready code starts S b w
   ready = due .ready
 
-  abbrev pub left : LeftDemand (ready .stands .tables) (getD (R ready) (w .at) none .half)
+  abbrev pub left : LeftDemand (ready .stands .tables) (getD (R ready) (w .at) zeroRec .half)
   left = at-demand (ready .stands .tables) (ready .stands .place) (due .kind)
 
   pub first-is : ready .stands .tables ≡ onDemand a ∷ left .later

@@ -11,7 +11,7 @@ use lib.Dec.{eqb}
 use lib.ListN.{length, getD, take, drop}
 use lib.Seq.{take-at, drop-append-add, drop-drop}
 use Rattle.records.specs.declared.Rec.{Rec}
-use Rattle.records.specs.Records.{recordsOf, none, encode, Wrote}
+use Rattle.records.specs.Records.{recordsOf, zeroRec, encode, Wrote}
 use Rattle.records.proofs.Laws.{length-encode}
 use Rattle.records.proofs.Whole.{Bytes, wrote-front}
 use Rattle.indexing_iter.specs.declared.Settings.{Settings}
@@ -135,10 +135,10 @@ module _ {code starts : List ℕ} {S : Settings} {b : List ℕ} {w : Walking} {a
     fewer-after : turnsLeft S b′ stored-at < turnsLeft S b w
     unfolding turnsLeft
     fewer-after =
-        let n : eqb (getD (take (size after) (recordsOf b′)) (w .at) none .kind) 3 ≡ false = ap (λ (r : Rec). eqb (r .kind) 3) (at-record at-after) ∙ not-three in
-        let m : eqb (getD (take (w .count) (recordsOf b)) (w .at) none .kind) 3 ≡ true = ap (λ (x : ℕ). eqb x 3) (due .kind) in
-        let x : cond {A = ℕ} (eqb (getD (take (size after) (recordsOf b′)) (w .at) none .kind) 3) 1 0 ≡ 0 = ap (λ (z : Bool). cond {A = ℕ} z 1 0) n in
-        let y : cond {A = ℕ} (eqb (getD (take (w .count) (recordsOf b)) (w .at) none .kind) 3) 1 0 ≡ 1 = ap (λ (z : Bool). cond {A = ℕ} z 1 0) m in
+        let n : eqb (getD (take (size after) (recordsOf b′)) (w .at) zeroRec .kind) 3 ≡ false = ap (λ (r : Rec). eqb (r .kind) 3) (at-record at-after) ∙ not-three in
+        let m : eqb (getD (take (w .count) (recordsOf b)) (w .at) zeroRec .kind) 3 ≡ true = ap (λ (x : ℕ). eqb x 3) (due .kind) in
+        let x : cond {A = ℕ} (eqb (getD (take (size after) (recordsOf b′)) (w .at) zeroRec .kind) 3) 1 0 ≡ 0 = ap (λ (z : Bool). cond {A = ℕ} z 1 0) n in
+        let y : cond {A = ℕ} (eqb (getD (take (w .count) (recordsOf b)) (w .at) zeroRec .kind) 3) 1 0 ≡ 1 = ap (λ (z : Bool). cond {A = ℕ} z 1 0) m in
         omega (arith, x, y, range due .0, range due .1)
 
     kept-after : (b₀ : List ℕ) → Kept S b₀ b (w .count) → Kept S b₀ b′ (size after)

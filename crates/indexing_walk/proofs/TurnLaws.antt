@@ -3,14 +3,14 @@
 use mathlib.Core.Path.{_≡_, refl, sym, ap, _∙_, subst}
 use mathlib.Core.Bool.{Bool, true, false, cond}
 use mathlib.Core.List.{List, [], _∷_}
-use mathlib.Core.Option.{Option, none as nothing, some}
+use mathlib.Core.Option.{Option, none, some}
 use Prim.Native.Nat.{ℕ, _+_, _-_, _≤_}
 use native.Mathlib.Numerals.{add-one}
 use native.Mathlib.Omega.{arith}
 use lib.ListN.{length, getD, take}
 use lib.Seq.{slice}
 use Rattle.records.specs.declared.Rec.{Rec}
-use Rattle.records.specs.Records.{recordsOf, none}
+use Rattle.records.specs.Records.{recordsOf, zeroRec}
 use Rattle.indexing_iter.specs.declared.OptArgIndexKey.{OptArgIndexKey as Key}
 use Rattle.indexing_iter.specs.declared.Settings.{Settings}
 use Rattle.indexing_iter.specs.Keys.{isOpen}
@@ -42,14 +42,14 @@ pub record Some (ts : List Table) (a : ℕ) : Type 0 where
 
 module _ {code starts : List ℕ} {S : Settings} {b : List ℕ} {w : Walking} (ready : Ready code starts S b w) where
   -- some table is left where a table's record stands
-  pub some-table : (ts : List Table) → At (modeOf (S .dynamic)) (here ready) (R ready) (w .line) ts (w .at) → isTable (getD (R ready) (w .at) none .kind) ≡ true → Some ts (getD (R ready) (w .at) none .half)
+  pub some-table : (ts : List Table) → At (modeOf (S .dynamic)) (here ready) (R ready) (w .line) ts (w .at) → isTable (getD (R ready) (w .at) zeroRec .kind) ≡ true → Some ts (getD (R ready) (w .at) zeroRec .half)
   some-table [] at e = bool-absurd e (at-none at)
   some-table (switch a es ∷ ts) at e = record { table = switch a es; later = ts; is = refl; arg = sym (ap (λ (r : Rec). r .half) (at-record at)) }
   some-table (onDemand a ∷ ts) at e = record { table = onDemand a; later = ts; is = refl; arg = sym (ap (λ (r : Rec). r .half) (at-record at)) }
   some-table (dead a os ∷ ts) at e = record { table = dead a os; later = ts; is = refl; arg = sym (ap (λ (r : Rec). r .half) (at-record at)) }
 
   -- no table is left where another record stands
-  pub turn-last : (r : Rec) → r ≡ getD (R ready) (w .at) none → isTable (r .kind) ≡ false → ready .stands .tables ≡ []
+  pub turn-last : (r : Rec) → r ≡ getD (R ready) (w .at) zeroRec → isTable (r .kind) ≡ false → ready .stands .tables ≡ []
   turn-last r is k = at-last (ready .stands .tables) (ready .stands .place) (ap (λ (y : Rec). isTable (y .kind)) (sym is) ∙ k)
 
 module _ {code starts : List ℕ} {S : Settings} {b : List ℕ} {w : Walking} (ready : Ready code starts S b w) (call : List ℕ) where
@@ -153,8 +153,8 @@ module _ {code starts : List ℕ} {S : Settings} {b : List ℕ} {w : Walking} (r
 -- it is at a table for argument a
 pub record AtTable (code starts : List ℕ) (S : Settings) (b : List ℕ) (w : Walking) (a : ℕ) : Type 0 where
   pub ready : Ready code starts S b w
-  pub half : a ≡ getD (R ready) (w .at) none .half
-  pub table : isTable (getD (R ready) (w .at) none .kind) ≡ true
+  pub half : a ≡ getD (R ready) (w .at) zeroRec .half
+  pub table : isTable (getD (R ready) (w .at) zeroRec .kind) ≡ true
 
 -- and the call's key there is key
 module _ {code starts : List ℕ} {S : Settings} {b : List ℕ} {w : Walking} {a : ℕ} (t : AtTable code starts S b w a) (call : List ℕ) (key : Key) (is : key ≡ callOf call a) where
@@ -181,7 +181,7 @@ module _ {code starts : List ℕ} {S : Settings} {b : List ℕ} {w : Walking} {a
     o = ap isOpen (sym is) ∙ shut
 
     -- dead and bound: next table
-    pub turn-dead : getD (R ready) (w .at) none .kind ≡ 4 → (v : Walking) → v ≡ next → Went code starts S call b w b v
+    pub turn-dead : getD (R ready) (w .at) zeroRec .kind ≡ 4 → (v : Walking) → v ≡ next → Went code starts S call b w b v
     turn-dead k v f =
         let x = at-dead (ready .stands .tables) (ready .stands .place) k in
         let u : Table = dead a (x .clauses) in
@@ -192,8 +192,8 @@ module _ {code starts : List ℕ} {S : Settings} {b : List ℕ} {w : Walking} {a
         (move-is (program ready) (here ready) (w .line) (w .from) (callOf call a) u (x .later) l ∙ ap (λ (y : Bool). cond y (pass 1) (pass 2)) o) refl)
 
     -- a switch and bound
-    module _ (k : getD (R ready) (w .at) none .kind ≡ 2) where
-      abbrev left : LeftSwitch (ready .stands .tables) (getD (R ready) (w .at) none .half)
+    module _ (k : getD (R ready) (w .at) zeroRec .kind ≡ 2) where
+      abbrev left : LeftSwitch (ready .stands .tables) (getD (R ready) (w .at) zeroRec .half)
       left = at-switch (ready .stands .tables) (ready .stands .place) k
 
       abbrev chosen : Table
@@ -219,7 +219,7 @@ module _ {code starts : List ℕ} {S : Settings} {b : List ℕ} {w : Walking} {a
       by-choice : (list : List ℕ) (c : Option (Chosen Ptr)) → choose (program ready) (callOf call a) (left .entries) ≡ c
           → ListedBy (choiceLed (R ready) (w .at) (w .line) c) list
           → Turns code starts S call b w b list (turnedBy w a (choiceLed (R ready) (w .at) (w .line) c))
-      by-choice list nothing e f = (to-fail ready call chosen (left .later) the-first list quiet-it (moves-it ∙ ap (follow (line (w .line))) e), refl, refl, omega arith)
+      by-choice list none e f = (to-fail ready call chosen (left .later) the-first list quiet-it (moves-it ∙ ap (follow (line (w .line))) e), refl, refl, omega arith)
       by-choice list (some c) e f = go (c .to) (c .how) (e) f
         where
           go : (x : Ptr) (h : ℕ) → choose (program ready) (callOf call a) (left .entries) ≡ some (record { how = h; to = x })

@@ -15,7 +15,7 @@ use Rattle.indexing.proofs.Expand.{opens, outcome}
 use Rattle.indexing.proofs.Order.{Args, Beyond, beyond-ext, beyond-int, Orderly}
 use Rattle.indexing.proofs.Tests.{eqb-same, eqb-other}
 use Rattle.indexing.specs.Build.{Program}
-use Rattle.indexing.specs.Expand.{expanded, expand}
+use Rattle.indexing.specs.Expand.{expanded, expand, State}
 use Rattle.indexing.specs.Lines.{Ptr, ext, int, Entry, Table, switch, onDemand, argOf, Index, lineAt, find, size}
 use Rattle.indexing_scan.proofs.Choose.{Ways, ways-none, ways-some, choose-linked}
 use Rattle.indexing_scan.proofs.ExpandedLaws.{at-find}
@@ -26,7 +26,7 @@ use Rattle.indexing_scan.proofs.Walks.{settle-quiet, settle-fits, settle-full, 
 use Rattle.indexing_scan.specs.Agree.{Call}
 use Rattle.indexing_scan.specs.Places.{At}
 use Rattle.indexing_scan.specs.Walk.{Chosen, Step, Place, line, unstored, Move, skip, stop, pass, out, goto, fail, external, act, choose}
-use Rattle.indexing_scan.specs.Walk.{moveOn, move, ending, State, Result, lookAt, result, due, isOnDemand, settle, answerFrom, walkFrom}
+use Rattle.indexing_scan.specs.Walk.{moveOn, move, ending, Result, lookAt, result, due, isOnDemand, settle, answerFrom, walkFrom}
 
 pub comes-start : (W : Result) → Comes W 0 W
 comes-start W = record { kind = refl; offsets = refl; path = omega arith; number = refl; whole = refl; left = refl }

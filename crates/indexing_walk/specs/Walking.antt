@@ -3,12 +3,12 @@
 use mathlib.Core.Path.{_≡_}
 use mathlib.Core.Bool.{true, false, cond}
 use mathlib.Core.List.{List, [], _∷_}
-use mathlib.Core.Option.{Option, none as nothing, some}
+use mathlib.Core.Option.{Option, none, some}
 use Prim.Native.Nat.{ℕ, _+_, _-_, _*_, _≤_, _<_}
 use lib.Dec.{eqb}
 use lib.ListN.{length, getD, take}
 use Rattle.records.specs.declared.Rec.{Rec}
-use Rattle.records.specs.Records.{recordsOf, none}
+use Rattle.records.specs.Records.{recordsOf, zeroRec}
 use Rattle.indexing_iter.specs.declared.Settings.{Settings}
 use Rattle.indexing_iter.specs.Classes.{classOf}
 use Rattle.indexing_iter.specs.Clauses.{known}
@@ -41,7 +41,7 @@ followedBy rs p l w = ledTo rs p l (pointerFrom w)
 
 -- what was chosen, followed
 abbrev pub choiceLed : List Rec → ℕ → ℕ → Option (WalkChosen Ptr) → Looked
-choiceLed rs p l nothing = Failed
+choiceLed rs p l none = Failed
 choiceLed rs p l (some c) = ledTo rs p l (c .to)
 
 abbrev pub lookedBy : List Rec → ℕ → ℕ → Chosen → Looked
@@ -121,7 +121,7 @@ restOf code starts S call b w =
 
 -- a number that falls with each turn: arguments left, whether expansions are stored, whether the table there is on demand
 unfoldable pub turnsLeft : Settings → List ℕ → Walking → ℕ
-turnsLeft S b w = 3 * (S .arity + 1 - w .from) + (cond (w .storing) 1 0 + cond (eqb (getD (take (w .count) (recordsOf b)) (w .at) none .kind) 3) 1 0)
+turnsLeft S b w = 3 * (S .arity + 1 - w .from) + (cond (w .storing) 1 0 + cond (eqb (getD (take (w .count) (recordsOf b)) (w .at) zeroRec .kind) 3) 1 0)
 
 -- how it ended: the case, line number, count and tables of the result; its offsets at the front of a list, and its index in the buffer
 pub record Ends (b list : List ℕ) (W : Result) (e : Ended) : Type 0 where

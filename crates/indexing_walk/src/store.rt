@@ -6,7 +6,7 @@ use indexing_builder::expansion::OnDemand;
 
 ghost use mathlib.Core.Path.{_≡_};
 ghost use lib.ListN.{length, take, getD};
-ghost use Rattle.records.specs.Records.{recordsOf, none};
+ghost use Rattle.records.specs.Records.{recordsOf, zeroRec};
 ghost use mathlib.Core.Bool.{true, false};
 ghost use Rattle.indexing_iter.specs.Classes.{classOf};
 ghost use Rattle.indexing_iter.specs.Checks.{checkCode};
@@ -51,7 +51,7 @@ fn store_line(code: &[u8], starts: &[u32], settings: Settings, index: &mut [u8],
     requires { ⌜ Stands settings (now starts) (now index) w ⌝ }
     requires { ⌜ (length (now list) ≡ m) × (length (now tags) ≡ m) × (w .storing ≡ true) ⌝ }
     requires { ⌜ (q ≡ firstOffset (take (w .count) (recordsOf (now index))) (w .at)) × (m ≡ offsetsAt (take (w .count) (recordsOf (now index))) q) ⌝ }
-    requires { ⌜ (getD (take (w .count) (recordsOf (now index))) (w .at) none .kind ≡ 3) × (a ≡ getD (take (w .count) (recordsOf (now index))) (w .at) none .half) ⌝ }
+    requires { ⌜ (getD (take (w .count) (recordsOf (now index))) (w .at) zeroRec .kind ≡ 3) × (a ≡ getD (take (w .count) (recordsOf (now index))) (w .at) zeroRec .half) ⌝ }
     ensures { λ r. ⌜ WentBound (now (code .entry)) (now (starts .entry)) settings (now (index .entry)) w a (now (index .exit)) r ⌝ }
 {
     index_writer::columns::read_choices(index, q, m, list, tags);
@@ -75,7 +75,7 @@ pub fn turn_store(code: &[u8], starts: &[u32], settings: Settings, index: &mut [
     requires { ⌜ checkCode classOf (settings .arity) (now code) (now starts) ≡ Passed ⌝ }
     requires { ⌜ Stands settings (now starts) (now index) w ⌝ }
     requires { ⌜ (length (now list) ≡ 1024) × (length (now tags) ≡ 1024) × (w .storing ≡ true) ⌝ }
-    requires { ⌜ (getD (take (w .count) (recordsOf (now index))) (w .at) none .kind ≡ 3) × (a ≡ getD (take (w .count) (recordsOf (now index))) (w .at) none .half) ⌝ }
+    requires { ⌜ (getD (take (w .count) (recordsOf (now index))) (w .at) zeroRec .kind ≡ 3) × (a ≡ getD (take (w .count) (recordsOf (now index))) (w .at) zeroRec .half) ⌝ }
     ensures { λ r. ⌜ WentBound (now (code .entry)) (now (starts .entry)) settings (now (index .entry)) w a (now (index .exit)) r ⌝ }
 {
     let q = indexing_scan::stored::first_offset(index, w.count, w.at);

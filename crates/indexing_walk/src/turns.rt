@@ -13,7 +13,7 @@ ghost use mathlib.Core.Path.{_≡_};
 ghost use Prim.Native.Nat.{_+_, _≤_, _<_};
 ghost use lib.ListN.{length, take, drop, getD};
 ghost use lib.Seq.{slice};
-ghost use Rattle.records.specs.Records.{recordsOf, none};
+ghost use Rattle.records.specs.Records.{recordsOf, zeroRec};
 ghost use mathlib.Core.Bool.{cond, true, false};
 ghost use mathlib.Core.List.{_++_};
 ghost use lib.Dec.{eqb};
@@ -148,7 +148,7 @@ fn turn_unstored(
     requires { ⌜ checkCall (settings .arity) (now call) ≡ Passed ⌝ }
     requires { ⌜ Stands settings (now starts) (now index) w ⌝ }
     requires { ⌜ (length (now list) ≡ 1024) × (w .storing ≡ false) × (w .tables ≤ 64) × (1 ≤ a) × (a ≤ settings .arity) × (settings .arity ≤ 32) ⌝ }
-    requires { ⌜ (getD (take (w .count) (recordsOf (now index))) (w .at) none .kind ≡ 3) × (a ≡ getD (take (w .count) (recordsOf (now index))) (w .at) none .half) ⌝ }
+    requires { ⌜ (getD (take (w .count) (recordsOf (now index))) (w .at) zeroRec .kind ≡ 3) × (a ≡ getD (take (w .count) (recordsOf (now index))) (w .at) zeroRec .half) ⌝ }
     requires { ⌜ (q ≡ callOf (now call) a) × (isOpen q ≡ false) ⌝ }
     ensures { λ r. ⌜ Turns (now (code .entry)) (now (starts .entry)) settings (now (call .entry)) (now (index .entry)) w (now (index .entry)) (now (list .exit)) r ⌝ }
 {
@@ -193,7 +193,7 @@ fn turn_bound(
     requires { ⌜ checkCall (settings .arity) (now call) ≡ Passed ⌝ }
     requires { ⌜ Stands settings (now starts) (now index) w ⌝ }
     requires { ⌜ (length (now list) ≡ 1024) × (length (now tags) ≡ 1024) ⌝ }
-    requires { ⌜ (kind ≡ getD (take (w .count) (recordsOf (now index))) (w .at) none .kind) × (a ≡ getD (take (w .count) (recordsOf (now index))) (w .at) none .half) ⌝ }
+    requires { ⌜ (kind ≡ getD (take (w .count) (recordsOf (now index))) (w .at) zeroRec .kind) × (a ≡ getD (take (w .count) (recordsOf (now index))) (w .at) zeroRec .half) ⌝ }
     requires { ⌜ (isTable kind ≡ true) × (q ≡ callOf (now call) a) × (isOpen q ≡ false) ⌝ }
     ensures { λ r. ⌜ Turns (now (code .entry)) (now (starts .entry)) settings (now (call .entry)) (now (index .entry)) w (now (index .exit)) (now (list .exit)) r ⌝ }
 {

@@ -8,7 +8,7 @@ use mathlib.Core.List.{List, []}
 use lib.ListN.{length, getD, take, drop, length-drop, drop-of-length-le}
 use lib.Seq.{take-all}
 use Rattle.records.specs.declared.Rec.{Rec}
-use Rattle.records.specs.Records.{recordsOf, none}
+use Rattle.records.specs.Records.{recordsOf, zeroRec}
 use Rattle.records.proofs.Laws.{length-recordsOf}
 use Rattle.indexing_iter.specs.declared.Settings.{Settings}
 use Rattle.indexing_iter.specs.Classes.{classOf}
@@ -34,7 +34,7 @@ code-part input m at e =
 pub starts-small : (input : List ℕ) (k : ℕ) → length input ≤ 65536 → k ≡ length (startsIn (drop 1 (recordsOf input))) → k ≤ 4096
 starts-small input k h e = omega (arith, behind-most (recordsOf input), length-recordsOf input)
 
-module _ (input : List ℕ) (r : Rec) (f : r ≡ getD (recordsOf input) 0 none) where
+module _ (input : List ℕ) (r : Rec) (f : r ≡ getD (recordsOf input) 0 zeroRec) where
   -- the settings and the chosen argument, read from the first record
   pub settings-as : (S : Settings) → S ≡ settingsFrom (eqb (r .kind) 240) r → S ≡ settingsOf input
   unfolding settingsOf
@@ -44,7 +44,7 @@ module _ (input : List ℕ) (r : Rec) (f : r ≡ getD (recordsOf input) 0 none) 
   unfolding chosenOf
   chosen-as = ap (λ (x : Rec). x .long) f
 
-module _ (input buffer code starts : List ℕ) (S : Settings) (r : Rec) (f : r ≡ getD (recordsOf input) 0 none) (g : S ≡ settingsFrom (eqb (r .kind) 240) r) where
+module _ (input buffer code starts : List ℕ) (S : Settings) (r : Rec) (f : r ≡ getD (recordsOf input) 0 zeroRec) (g : S ≡ settingsFrom (eqb (r .kind) 240) r) where
   call-as : code ≡ codeOf input → starts ≡ startsOf input → buildCall classOf code starts S (r .long) buffer ≡ linesCall input buffer
   unfolding linesCall
   call-as c s = rw (c, s, settings-as input r f S g, chosen-as input r f) refl

@@ -11,21 +11,21 @@ use borrow.Author.Tests.{eq-eqb, ne-eqb}
 use lib.ListN.{length, getD, drop, length-drop, drop-of-length-le}
 use lib.Seq.{drop-cons, getD-drop}
 use Rattle.records.specs.declared.Rec.{Rec}
-use Rattle.records.specs.Records.{none}
+use Rattle.records.specs.Records.{zeroRec}
 use Rattle.inputs.specs.Input.{startsIn}
 
 starts-step : (rs : List Rec) (i : ℕ) → i < length rs
-    → startsIn (drop i rs) ≡ cond (eqb (getD rs i none .kind) 241) (getD rs i none .word ∷ startsIn (drop (i + 1) rs)) []
+    → startsIn (drop i rs) ≡ cond (eqb (getD rs i zeroRec .kind) 241) (getD rs i zeroRec .word ∷ startsIn (drop (i + 1) rs)) []
 unfolding startsIn
-starts-step rs i h = rw (drop-cons rs i none h, add-one i) refl
+starts-step rs i h = rw (drop-cons rs i zeroRec h, add-one i) refl
 
 -- one more start
-pub starts-more : (rs : List Rec) (i : ℕ) → i < length rs → getD rs i none .kind ≡ 241
+pub starts-more : (rs : List Rec) (i : ℕ) → i < length rs → getD rs i zeroRec .kind ≡ 241
     → length (startsIn (drop i rs)) ≡ 1 + length (startsIn (drop (i + 1) rs))
 starts-more rs i h e = rw (starts-step rs i h, eq-eqb _ _ e) (omega arith)
 
 -- the first record that is no start
-pub starts-stop : (rs : List Rec) (i : ℕ) → i < length rs → (getD rs i none .kind ≡ 241 → ⊥) → length (startsIn (drop i rs)) ≡ 0
+pub starts-stop : (rs : List Rec) (i : ℕ) → i < length rs → (getD rs i zeroRec .kind ≡ 241 → ⊥) → length (startsIn (drop i rs)) ≡ 0
 starts-stop rs i h e = rw (starts-step rs i h, ne-eqb _ _ e) refl
 
 -- the end of the records
@@ -34,14 +34,14 @@ unfolding startsIn
 starts-end rs i h = rw (drop-of-length-le rs h) refl
 
 -- each start is the word of its record
-pub starts-word : (rs : List Rec) (i : ℕ) → i < length (startsIn rs) → getD (startsIn rs) i 0 ≡ getD rs i none .word
+pub starts-word : (rs : List Rec) (i : ℕ) → i < length (startsIn rs) → getD (startsIn rs) i 0 ≡ getD rs i zeroRec .word
 unfolding startsIn
 starts-word [] i h = absurd (not-suc-le-zero h)
 starts-word (r ∷ rs) i h = go (eqb (r .kind) 241) i h (starts-word rs)
   where
     go : (b : Bool) (k : ℕ) → k < length (cond b (r .word ∷ startsIn rs) [])
-        → ((m : ℕ) → m < length (startsIn rs) → getD (startsIn rs) m 0 ≡ getD rs m none .word)
-        → getD (cond b (r .word ∷ startsIn rs) []) k 0 ≡ getD (r ∷ rs) k none .word
+        → ((m : ℕ) → m < length (startsIn rs) → getD (startsIn rs) m 0 ≡ getD rs m zeroRec .word)
+        → getD (cond b (r .word ∷ startsIn rs) []) k 0 ≡ getD (r ∷ rs) k zeroRec .word
     go true zero l f = refl
     go true (suc k) l f = f k (le-of-suc-le-suc l)
     go false k l f = absurd (not-suc-le-zero l)
@@ -56,10 +56,10 @@ starts-within (r ∷ rs) = go (eqb (r .kind) 241) (starts-within rs)
     go false h = omega arith
 
 -- the starts behind the first record
-pub word-behind : (rs : List Rec) (i : ℕ) → i < length (startsIn (drop 1 rs)) → getD (startsIn (drop 1 rs)) i 0 ≡ getD rs (i + 1) none .word
+pub word-behind : (rs : List Rec) (i : ℕ) → i < length (startsIn (drop 1 rs)) → getD (startsIn (drop 1 rs)) i 0 ≡ getD rs (i + 1) zeroRec .word
 word-behind rs i h =
     starts-word (drop 1 rs) i h
-    ∙ ap (λ (r : Rec). r .word) (getD-drop 1 rs i none ∙ ap (λ (k : ℕ). getD rs k none) (add-comm 1 i))
+    ∙ ap (λ (r : Rec). r .word) (getD-drop 1 rs i zeroRec ∙ ap (λ (k : ℕ). getD rs k zeroRec) (add-comm 1 i))
 
 pub behind-within : (rs : List Rec) (i : ℕ) → i < length (startsIn (drop 1 rs)) → i + 1 < length rs
 behind-within rs i h = omega (arith, starts-within (drop 1 rs), length-drop 1 rs)

@@ -6,7 +6,7 @@ use mathlib.Core.List.{List, [], _∷_}
 use lib.Dec.{eqb, ltb}
 use lib.ListN.{length, getD, take, drop}
 use Rattle.records.specs.declared.Rec.{Rec}
-use Rattle.records.specs.Records.{recordsOf, none}
+use Rattle.records.specs.Records.{recordsOf, zeroRec}
 use Rattle.indexing_iter.specs.declared.Settings.{Settings}
 use Rattle.indexing_iter.specs.Classes.{classOf}
 use Rattle.indexing.specs.Builder.{Built, buildCall}
@@ -22,11 +22,11 @@ settingsFrom true r =
 settingsFrom false r = record { arity = 0; mask = 0; dynamic = false; extensible = false; «non_counted» = false; skip = false }
 
 unfoldable pub settingsOf : List ℕ → Settings
-settingsOf input = let r = getD (recordsOf input) 0 none in settingsFrom (eqb (r .kind) 240) r
+settingsOf input = let r = getD (recordsOf input) 0 zeroRec in settingsFrom (eqb (r .kind) 240) r
 
 -- long c
 unfoldable pub chosenOf : List ℕ → ℕ
-chosenOf input = getD (recordsOf input) 0 none .long
+chosenOf input = getD (recordsOf input) 0 zeroRec .long
 
 -- kind 241 for each start (word); the first opcode of the code is not 241
 unfoldable pub startsIn : List Rec → List ℕ

@@ -6,7 +6,7 @@ ghost use mathlib.Core.Path.{_≡_};
 ghost use Prim.Native.Nat.{_+_, _*_, _≤_, _<_, min};
 ghost use lib.ListN.{length, getD, drop};
 ghost use lib.Dec.{eqb};
-ghost use Rattle.records.specs.Records.{recordsOf, none};
+ghost use Rattle.records.specs.Records.{recordsOf, zeroRec};
 ghost use Rattle.indexing_builder.specs.Answer.{builtOf};
 ghost use Rattle.inputs.specs.Input.{bit as bitOf, settingsFrom, startsIn, linesCall};
 
@@ -47,7 +47,7 @@ pub fn settings_in(r: Rec) -> Settings
 
 // The first record of an input, all zero where there is none.
 pub fn first_record(input: &[u8]) -> Rec
-    ensures { λ r. ⌜ r ≡ getD (recordsOf (now (input .entry))) 0 none ⌝ }
+    ensures { λ r. ⌜ r ≡ getD (recordsOf (now (input .entry))) 0 zeroRec ⌝ }
 {
     let n = records::capacity(input);
     records::record_in(input, n, 0)

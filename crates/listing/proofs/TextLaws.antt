@@ -9,7 +9,7 @@ use borrow.Author.Tests.{eq-eqb, ne-eqb}
 use lib.ListN.{length, getD, drop, set}
 use lib.Seq.{slice, slice-empty, slice-cons}
 use Rattle.records.specs.declared.Rec.{Rec}
-use Rattle.records.specs.Records.{none}
+use Rattle.records.specs.Records.{zeroRec}
 use Rattle.listing.specs.Text.{digits, decimal, lineOf, linesOf}
 
 -- a byte written stands before what follows it
@@ -53,12 +53,12 @@ line-fields r a b c d e text p q s t u =
     (s ∙ ap (λ (x : List ℕ). decimal (r .half) (32 ∷ x)) (q ∙ ap (λ (x : List ℕ). decimal (r .word) (32 ∷ x)) p)))
 
 -- one more line, before those that stand
-pub lines-more : (rs : List Rec) (r : Rec) (i to : ℕ) (before after : List ℕ) → i < to → to ≤ length rs → r ≡ getD rs i none
+pub lines-more : (rs : List Rec) (r : Rec) (i to : ℕ) (before after : List ℕ) → i < to → to ≤ length rs → r ≡ getD rs i zeroRec
     → before ≡ linesOf (slice (i + 1) to rs) [] → after ≡ lineOf r before → after ≡ linesOf (slice i to rs) []
 unfolding linesOf
 lines-more rs r i to before after h k e p q =
     q ∙ ap (λ (x : List ℕ). lineOf r x) p ∙ ap (λ (x : Rec). lineOf x (linesOf (slice (i + 1) to rs) [])) e
-    ∙ sym (rw (slice-cons i to rs none h k, add-one i) refl)
+    ∙ sym (rw (slice-cons i to rs zeroRec h k, add-one i) refl)
 
 pub lines-none : (rs : List Rec) (to : ℕ) → linesOf (slice to to rs) [] ≡ []
 unfolding linesOf

@@ -6,7 +6,7 @@ use mathlib.Core.List.{List, _++_}
 use lib.ListN.{length, getD, take, drop, set, length-append, List·getD-append}
 use lib.Seq.{length-take-le, getD-take, getD-drop, getD-append-add, getD-set-same, getD-set-other}
 use Rattle.records.specs.declared.Rec.{Rec}
-use Rattle.records.specs.Records.{recordsOf, none, Wrote}
+use Rattle.records.specs.Records.{recordsOf, zeroRec, Wrote}
 use Rattle.records.specs.Moves.{written}
 
 module _ {ℓ} {A : Type ℓ} (l : List A) (p : ℕ) (s : List A) (d : A) (room : p + length s ≤ length l) where
@@ -36,22 +36,22 @@ module _ {ℓ} {A : Type ℓ} (l : List A) (p : ℕ) (s : List A) (d : A) (room 
       ∙ ap (λ (k : ℕ). getD l k d) (sym e)
 
 -- one record: at its place it is read back
-pub put-back : (b b′ : List ℕ) (at : ℕ) (r : Rec) → at < length (recordsOf b) → Wrote b b′ (set (recordsOf b) at r) → getD (recordsOf b′) at none ≡ r
-put-back b b′ at r h w = ap (λ (l : List Rec). getD l at none) (w .records) ∙ getD-set-same (recordsOf b) at r none h
+pub put-back : (b b′ : List ℕ) (at : ℕ) (r : Rec) → at < length (recordsOf b) → Wrote b b′ (set (recordsOf b) at r) → getD (recordsOf b′) at zeroRec ≡ r
+put-back b b′ at r h w = ap (λ (l : List Rec). getD l at zeroRec) (w .records) ∙ getD-set-same (recordsOf b) at r zeroRec h
 
 -- and at any other place stands what stood there
 pub put-other : (b b′ : List ℕ) (at i : ℕ) (r : Rec) → (i ≡ at → ⊥) → Wrote b b′ (set (recordsOf b) at r)
-    → getD (recordsOf b′) i none ≡ getD (recordsOf b) i none
-put-other b b′ at i r h w = ap (λ (l : List Rec). getD l i none) (w .records) ∙ getD-set-other (recordsOf b) at i r none h
+    → getD (recordsOf b′) i zeroRec ≡ getD (recordsOf b) i zeroRec
+put-other b b′ at i r h w = ap (λ (l : List Rec). getD l i zeroRec) (w .records) ∙ getD-set-other (recordsOf b) at i r zeroRec h
 
 module _ (b b′ : List ℕ) (p : ℕ) (s : List Rec) (room : p + length s ≤ length (recordsOf b)) (w : Wrote b b′ (written (recordsOf b) p s)) where
   -- a run: its records are read back
-  pub run-back : (i : ℕ) → i < length s → getD (recordsOf b′) (p + i) none ≡ getD s i none
-  run-back i h = ap (λ (l : List Rec). getD l (p + i) none) (w .records) ∙ written-in (recordsOf b) p s none room i h
+  pub run-back : (i : ℕ) → i < length s → getD (recordsOf b′) (p + i) zeroRec ≡ getD s i zeroRec
+  run-back i h = ap (λ (l : List Rec). getD l (p + i) zeroRec) (w .records) ∙ written-in (recordsOf b) p s zeroRec room i h
 
   -- and at any other place stands what stood there
-  pub run-below : (i : ℕ) → i < p → getD (recordsOf b′) i none ≡ getD (recordsOf b) i none
-  run-below i h = ap (λ (l : List Rec). getD l i none) (w .records) ∙ written-below (recordsOf b) p s none room i h
+  pub run-below : (i : ℕ) → i < p → getD (recordsOf b′) i zeroRec ≡ getD (recordsOf b) i zeroRec
+  run-below i h = ap (λ (l : List Rec). getD l i zeroRec) (w .records) ∙ written-below (recordsOf b) p s zeroRec room i h
 
-  pub run-above : (i : ℕ) → p + length s ≤ i → getD (recordsOf b′) i none ≡ getD (recordsOf b) i none
-  run-above i h = ap (λ (l : List Rec). getD l i none) (w .records) ∙ written-above (recordsOf b) p s none room i h
+  pub run-above : (i : ℕ) → p + length s ≤ i → getD (recordsOf b′) i zeroRec ≡ getD (recordsOf b) i zeroRec
+  run-above i h = ap (λ (l : List Rec). getD l i zeroRec) (w .records) ∙ written-above (recordsOf b) p s zeroRec room i h

@@ -6,11 +6,11 @@ use mathlib.Core.List.{List, [], _∷_, _++_, append-assoc}
 use lib.ListN.{length, take, drop}
 use Rattle.records.specs.Bytes.{bytes16, bytes32, bytes64}
 use Rattle.records.specs.declared.Rec.{Rec}
-use Rattle.records.specs.Records.{decode, encodeRec, encode, recs, recordsOf, none, Fits, AllFit}
+use Rattle.records.specs.Records.{decode, encodeRec, encode, recs, recordsOf, zeroRec, Fits, AllFit}
 use Rattle.records.proofs.Laws.{length-encodeRec, take-encodeRec, decode-encode, one-record, recordsOf-append}
 use Rattle.records.proofs.Whole.{Bytes, bytes-take, bytes-drop, low16, low32, low64}
 
-pub fit-none : Fits none
+pub fit-none : Fits zeroRec
 fit-none = record { kind = omega arith; sub = omega arith; half = omega arith; word = omega arith; long = omega arith }
 
 pub fit-cons : (r : Rec) (rs : List Rec) → Fits r → AllFit rs → AllFit (r ∷ rs)

@@ -8,7 +8,7 @@ use lib.ListN.{length, getD, take, drop, set, length-append, length-drop, take-a
 use lib.Seq.{length-take-le, take-append-le, drop-append-le, drop-append-add, drop-drop, take-at, drop-at, getD-drop, set-split, take-all}
 use Rattle.records.specs.Bytes.{le16, le32, le64, bytes16, bytes32, bytes64}
 use Rattle.records.specs.declared.Rec.{Rec}
-use Rattle.records.specs.Records.{decode, encodeRec, encode, recs, recordsOf, oddOf, none, Wrote}
+use Rattle.records.specs.Records.{decode, encodeRec, encode, recs, recordsOf, oddOf, zeroRec, Wrote}
 
 pub length-recs : (n : ℕ) (b : List ℕ) → length (recs n b) ≡ n
 unfolding recs
@@ -61,22 +61,22 @@ recordsOf-take k b h =
 pub room : (b : List ℕ) (at : ℕ) → at < length (recordsOf b) → 16 * at + 16 ≤ length b
 room b at h = omega (arith, length-recordsOf b)
 
-first-record : (x : List ℕ) → 0 < length x / 16 → getD (recordsOf x) 0 none ≡ decode (take 16 x)
+first-record : (x : List ℕ) → 0 < length x / 16 → getD (recordsOf x) 0 zeroRec ≡ decode (take 16 x)
 unfolding recordsOf recs
-first-record x p = ap (λ (n : ℕ). getD (recs n x) 0 none) (sym (suc-pred-eq-of-pos p))
+first-record x p = ap (λ (n : ℕ). getD (recs n x) 0 zeroRec) (sym (suc-pred-eq-of-pos p))
 
 pub one-record : (x : List ℕ) → length x ≡ 16 → recordsOf x ≡ decode (take 16 x) ∷ []
 unfolding recordsOf recs
 one-record x p = ap (λ (n : ℕ). recs (n / 16) x) p
 
 -- the record at a place is that of its sixteen bytes
-pub getD-recordsOf : (b : List ℕ) (at : ℕ) → at < length (recordsOf b) → getD (recordsOf b) at none ≡ decode (take 16 (drop (16 * at) b))
+pub getD-recordsOf : (b : List ℕ) (at : ℕ) → at < length (recordsOf b) → getD (recordsOf b) at zeroRec ≡ decode (take 16 (drop (16 * at) b))
 getD-recordsOf b at h =
     let w : 16 * at + 16 ≤ length b = room b at h in
     let v : 16 * at ≤ length b = omega arith in
     let u : 0 < length (drop (16 * at) b) / 16 = simp length-drop (omega arith) in
-    sym (getD-drop at (recordsOf b) 0 none ∙ ap (λ (k : ℕ). getD (recordsOf b) k none) (add-zero at))
-    ∙ ap (λ (l : List Rec). getD l 0 none) (sym (recordsOf-drop at b v))
+    sym (getD-drop at (recordsOf b) 0 zeroRec ∙ ap (λ (k : ℕ). getD (recordsOf b) k zeroRec) (add-zero at))
+    ∙ ap (λ (l : List Rec). getD l 0 zeroRec) (sym (recordsOf-drop at b v))
     ∙ first-record (drop (16 * at) b) u
 
 -- sixteen bytes stored at a place

@@ -7,7 +7,7 @@ use mathlib.Core.List.{List, _++_}
 use lib.ListN.{length, getD, take, drop, set}
 use lib.Seq.{paste, paste-zero, paste-suc, take-length}
 use Rattle.records.specs.declared.Rec.{Rec}
-use Rattle.records.specs.Records.{recordsOf, oddOf, none, Wrote}
+use Rattle.records.specs.Records.{recordsOf, oddOf, zeroRec, Wrote}
 use Rattle.records.specs.Moves.{written}
 use Rattle.records.proofs.Laws.{length-recordsOf, same-count, wrote}
 
@@ -33,7 +33,7 @@ run-start b p s h = record {
 }
 
 pub run-more : {b₀ : List ℕ} {p : ℕ} {s : List Rec} {b : List ℕ} {i : ℕ} (b′ : List ℕ) (r : Rec) → Run b₀ p s b i
-    → i < length s → getD s i none ≡ r → length b′ ≡ length b → Wrote b b′ (set (recordsOf b) (p + i) r) → Run b₀ p s b′ (i + 1)
+    → i < length s → getD s i zeroRec ≡ r → length b′ ≡ length b → Wrote b b′ (set (recordsOf b) (p + i) r) → Run b₀ p s b′ (i + 1)
 run-more {b₀} {p} {s} {b} {i} b′ r R h q e f = record {
   within = omega arith;
   room = R .room;
@@ -41,7 +41,7 @@ run-more {b₀} {p} {s} {b} {i} b′ r R h q e f = record {
   bytes = omega (arith, same-count b′ b₀ (e ∙ R .same), R .count);
   same = e ∙ R .same;
   done = f .records ∙ ap₂ (λ (x : List Rec) (y : Rec). set x (p + i) y) (R .done) (sym q)
-      ∙ paste-suc (recordsOf b₀) p s i none (omega arith) h ∙ ap (paste (recordsOf b₀) p s) (sym (add-one i));
+      ∙ paste-suc (recordsOf b₀) p s i zeroRec (omega arith) h ∙ ap (paste (recordsOf b₀) p s) (sym (add-one i));
   odd = f .odd ∙ R .odd;
 }
 

@@ -7,16 +7,16 @@ use Rattle.records.specs.Bytes.{le16, le32, le64, bytes16, bytes32, byte
 use Rattle.records.specs.declared.Rec.{Rec}
 
 -- a record from its five fields
-abbrev pub rec : ℕ → ℕ → ℕ → ℕ → ℕ → Rec
-rec k s h w l = record { kind = k; sub = s; half = h; word = w; long = l }
+abbrev pub recOf : ℕ → ℕ → ℕ → ℕ → ℕ → Rec
+recOf k s h w l = record { kind = k; sub = s; half = h; word = w; long = l }
 
 -- what stands past the end
-abbrev pub none : Rec
-none = rec 0 0 0 0 0
+abbrev pub zeroRec : Rec
+zeroRec = recOf 0 0 0 0 0
 
 -- the record at the front of a list of bytes
 unfoldable pub decode : List ℕ → Rec
-decode b = rec (getD b 0 0) (getD b 1 0) (le16 b 2) (le32 b 4) (le64 b 8)
+decode b = recOf (getD b 0 0) (getD b 1 0) (le16 b 2) (le32 b 4) (le64 b 8)
 
 -- the sixteen bytes of a record
 unfoldable pub encodeRec : Rec → List ℕ
@@ -56,4 +56,4 @@ pub record Fits (r : Rec) : Type 0 where
 
 -- every record of a list fits
 abbrev pub AllFit : List Rec → Type 0
-AllFit rs = (i : ℕ) → Fits (getD rs i none)
+AllFit rs = (i : ℕ) → Fits (getD rs i zeroRec)

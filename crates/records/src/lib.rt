@@ -4,7 +4,7 @@ ghost use mathlib.Core.Path.{_≡_};
 ghost use Prim.Native.Nat.{_+_, _≤_, _<_};
 ghost use lib.ListN.{length, take, set, getD};
 ghost use Rattle.records.specs.Bytes.{le16, le32, le64};
-ghost use Rattle.records.specs.Records.{decode, encodeRec, recordsOf, none, Wrote};
+ghost use Rattle.records.specs.Records.{decode, encodeRec, recordsOf, zeroRec, Wrote};
 ghost use Rattle.records.specs.Moves.{written, moved, gapped};
 
 pub mod pointer;
@@ -125,7 +125,7 @@ pub fn capacity(index: &[u8]) -> usize
 // The record at a place of the buffer.
 pub fn get(index: &[u8], at: usize) -> Rec
     requires { ⌜ at < length (recordsOf (now index)) ⌝ }
-    ensures { λ r. ⌜ r ≡ getD (recordsOf (now (index .entry))) at none ⌝ }
+    ensures { λ r. ⌜ r ≡ getD (recordsOf (now (index .entry))) at zeroRec ⌝ }
 {
     let start = 16 * at;
     let end = start + 16;
@@ -134,7 +134,7 @@ pub fn get(index: &[u8], at: usize) -> Rec
 
 // A record of zeros.
 pub fn zeros() -> Rec
-    ensures { λ r. ⌜ r ≡ none ⌝ }
+    ensures { λ r. ⌜ r ≡ zeroRec ⌝ }
 {
     Rec {
         kind: 0,
@@ -148,7 +148,7 @@ pub fn zeros() -> Rec
 // The record at place p of the first n records, or one of zeros behind them.
 pub fn record_in(index: &[u8], n: usize, p: usize) -> Rec
     requires { ⌜ n ≤ length (recordsOf (now index)) ⌝ }
-    ensures { λ r. ⌜ r ≡ getD (take n (recordsOf (now (index .entry)))) p none ⌝ }
+    ensures { λ r. ⌜ r ≡ getD (take n (recordsOf (now (index .entry)))) p zeroRec ⌝ }
 {
     if p < n {
         return get(index, p);

@@ -5,7 +5,7 @@ use mathlib.Core.Bool.{Bool, cond, _&&_}
 use mathlib.Core.List.{List, [], _∷_, _++_}
 use lib.Dec.{T, eqb}
 use Rattle.records.specs.declared.Rec.{Rec}
-use Rattle.records.specs.Records.{rec, decode, encodeRec, encode, recs, recordsOf}
+use Rattle.records.specs.Records.{recOf, decode, encodeRec, encode, recs, recordsOf}
 use Rattle.indexing.proofs.Sample.{alike, all}
 use Rattle.inputs.specs.Input.{settingsOf, startsIn}
 use Rattle.walk_inputs.specs.declared.Plan.{Plan}
@@ -14,17 +14,17 @@ use Rattle.walk_inputs.specs.Run.{codeOf, callsOf, callPart, startIndex}
 
 -- settings of arity 2 and two starts, then further records
 abbrev input : List Rec → List ℕ
-input rs = encode (rec 240 0 2 0 1 ∷ rec 241 0 0 0 0 ∷ rec 241 0 0 3 0 ∷ rs)
+input rs = encode (recOf 240 0 2 0 1 ∷ recOf 241 0 0 0 0 ∷ recOf 241 0 0 3 0 ∷ rs)
 
 -- a call record, an index record, a code record
 abbrev a : Rec
-a = rec 0 1 0 0 7
+a = recOf 0 1 0 0 7
 
 abbrev b : Rec
-b = rec 1 0 0 0 0
+b = recOf 1 0 0 0 0
 
 abbrev c : Rec
-c = rec 64 0 0 0 0
+c = recOf 64 0 0 0 0
 
 record Case : Type 0 where
   records : List Rec
@@ -38,18 +38,18 @@ tells x = alike (told (planOf (input (x .records)))) (x .plan)
 
 abbrev cases : List Case
 cases =
-    record { records = rec 242 0 5 3 9 ∷ a ∷ a ∷ a ∷ c ∷ c ∷ []; plan = 2 ∷ 5 ∷ 9 ∷ 0 ∷ 0 ∷ 4 ∷ 3 ∷ 0 ∷ [] }
+    record { records = recOf 242 0 5 3 9 ∷ a ∷ a ∷ a ∷ c ∷ c ∷ []; plan = 2 ∷ 5 ∷ 9 ∷ 0 ∷ 0 ∷ 4 ∷ 3 ∷ 0 ∷ [] }
     -- no 242, and nothing behind the starts
     ∷ record { records = c ∷ c ∷ []; plan = 2 ∷ 0 ∷ 0 ∷ 0 ∷ 0 ∷ 3 ∷ 0 ∷ 0 ∷ [] }
     ∷ record { records = []; plan = 2 ∷ 0 ∷ 0 ∷ 0 ∷ 0 ∷ 3 ∷ 0 ∷ 0 ∷ [] }
     -- an index is handed in; a capacity above 65,535
-    ∷ record { records = rec 242 1 7 1 70000 ∷ rec 243 0 0 2 8 ∷ a ∷ b ∷ b ∷ c ∷ []; plan = 2 ∷ 7 ∷ 65535 ∷ 1 ∷ 8 ∷ 5 ∷ 1 ∷ 2 ∷ [] }
+    ∷ record { records = recOf 242 1 7 1 70000 ∷ recOf 243 0 0 2 8 ∷ a ∷ b ∷ b ∷ c ∷ []; plan = 2 ∷ 7 ∷ 65535 ∷ 1 ∷ 8 ∷ 5 ∷ 1 ∷ 2 ∷ [] }
     -- no 243 where the bit is set; 243 where it is not
-    ∷ record { records = rec 242 1 0 1 4 ∷ a ∷ c ∷ []; plan = 2 ∷ 0 ∷ 4 ∷ 1 ∷ 0 ∷ 4 ∷ 1 ∷ 0 ∷ [] }
-    ∷ record { records = rec 242 254 0 1 4 ∷ rec 243 0 0 2 8 ∷ c ∷ []; plan = 2 ∷ 0 ∷ 4 ∷ 0 ∷ 0 ∷ 4 ∷ 1 ∷ 0 ∷ [] }
+    ∷ record { records = recOf 242 1 0 1 4 ∷ a ∷ c ∷ []; plan = 2 ∷ 0 ∷ 4 ∷ 1 ∷ 0 ∷ 4 ∷ 1 ∷ 0 ∷ [] }
+    ∷ record { records = recOf 242 254 0 1 4 ∷ recOf 243 0 0 2 8 ∷ c ∷ []; plan = 2 ∷ 0 ∷ 4 ∷ 0 ∷ 0 ∷ 4 ∷ 1 ∷ 0 ∷ [] }
     -- fewer calls and fewer index records than are said
-    ∷ record { records = rec 242 0 0 9 4 ∷ a ∷ a ∷ []; plan = 2 ∷ 0 ∷ 4 ∷ 0 ∷ 0 ∷ 4 ∷ 2 ∷ 0 ∷ [] }
-    ∷ record { records = rec 242 1 0 1 4 ∷ rec 243 0 0 9 8 ∷ a ∷ b ∷ []; plan = 2 ∷ 0 ∷ 4 ∷ 1 ∷ 8 ∷ 5 ∷ 1 ∷ 1 ∷ [] }
+    ∷ record { records = recOf 242 0 0 9 4 ∷ a ∷ a ∷ []; plan = 2 ∷ 0 ∷ 4 ∷ 0 ∷ 0 ∷ 4 ∷ 2 ∷ 0 ∷ [] }
+    ∷ record { records = recOf 242 1 0 1 4 ∷ recOf 243 0 0 9 8 ∷ a ∷ b ∷ []; plan = 2 ∷ 0 ∷ 4 ∷ 1 ∷ 8 ∷ 5 ∷ 1 ∷ 1 ∷ [] }
     ∷ []
 
 pub planned : T (all tells cases)
@@ -58,10 +58,10 @@ planned = tt
 
 -- three call records and two index records, with room for a number of them; one odd byte behind the code
 abbrev run : ℕ → List ℕ
-run room = input (rec 242 1 0 3 room ∷ rec 243 0 0 2 2 ∷ a ∷ a ∷ c ∷ b ∷ b ∷ c ∷ []) ++ (5 ∷ [])
+run room = input (recOf 242 1 0 3 room ∷ recOf 243 0 0 2 2 ∷ a ∷ a ∷ c ∷ b ∷ b ∷ c ∷ []) ++ (5 ∷ [])
 
 abbrev zeros : List ℕ
-zeros = encode (rec 0 0 0 0 0 ∷ [])
+zeros = encode (recOf 0 0 0 0 0 ∷ [])
 
 -- two calls, the second short, and none past it; the index in exactly its capacity; the code with its part record
 abbrev parts : Bool

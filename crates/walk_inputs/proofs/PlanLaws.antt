@@ -9,16 +9,16 @@ use borrow.Author.Tests.{eq-eqb, ne-eqb}
 use lib.ListN.{length, getD, take, drop}
 use lib.Seq.{take-length}
 use Rattle.records.specs.declared.Rec.{Rec}
-use Rattle.records.specs.Records.{recordsOf, none}
+use Rattle.records.specs.Records.{recordsOf, zeroRec}
 use Rattle.records.proofs.Laws.{length-recordsOf}
 use Rattle.inputs.specs.Input.{bit, startsIn}
 use Rattle.inputs.proofs.StartLaws.{behind-most}
 use Rattle.walk_inputs.specs.declared.Plan.{Plan}
 use Rattle.walk_inputs.specs.Plan.{startsOf, recordOf, placeOf, givenOf, plannedBy, planOf}
 
-module _ (rs : List Rec) (n at : ℕ) (r : Rec) (e : n ≡ length rs) (f : r ≡ getD (take n rs) at none) where
-  at-place : r ≡ getD rs at none
-  at-place = f ∙ ap (λ (k : ℕ). getD (take k rs) at none) e ∙ ap (λ (l : List Rec). getD l at none) (take-length rs)
+module _ (rs : List Rec) (n at : ℕ) (r : Rec) (e : n ≡ length rs) (f : r ≡ getD (take n rs) at zeroRec) where
+  at-place : r ≡ getD rs at zeroRec
+  at-place = f ∙ ap (λ (k : ℕ). getD (take k rs) at zeroRec) e ∙ ap (λ (l : List Rec). getD l at zeroRec) (take-length rs)
 
   -- the record at a place is of the kind
   pub record-found : (kind : ℕ) → r .kind ≡ kind → r ≡ recordOf kind rs at
@@ -26,7 +26,7 @@ module _ (rs : List Rec) (n at : ℕ) (r : Rec) (e : n ≡ length rs) (f : r ≡
   record-found kind q = rw (← at-place, eq-eqb (r .kind) kind q) refl
 
   -- or of another
-  pub record-missing : (kind : ℕ) → (r .kind ≡ kind → ⊥) → none ≡ recordOf kind rs at
+  pub record-missing : (kind : ℕ) → (r .kind ≡ kind → ⊥) → zeroRec ≡ recordOf kind rs at
   unfolding recordOf
   record-missing kind q = rw (← at-place, ne-eqb (r .kind) kind q) refl
 

@@ -6,7 +6,7 @@ use mathlib.Core.List.{List, _++_}
 use lib.Dec.{eqb}
 use lib.ListN.{length, getD, take, drop, replicate}
 use Rattle.records.specs.declared.Rec.{Rec}
-use Rattle.records.specs.Records.{recordsOf, none}
+use Rattle.records.specs.Records.{recordsOf, zeroRec}
 use Rattle.indexing_iter.specs.declared.Settings.{Settings}
 use Rattle.indexing_iter.specs.Classes.{classOf}
 use Rattle.indexing.specs.Builder.{Built, buildCall}
@@ -26,7 +26,7 @@ use Rattle.walk_inputs.specs.Plan.{startsOf, planOf, partOf, stepOf}
 use Rattle.walk_inputs.specs.Run.{codeOf, callsOf, callPart, startIndex, openedBuilt, buildOf, openOf, openedOf, firstBuilt, openedIn, walkOf, walkedIn, walkIn}
 
 module _ (input : List ℕ) (p : Plan) (r : Rec) (S : Settings) (at : ℕ) (code starts : List ℕ) (e : p ≡ planOf input)
-    (f : r ≡ getD (recordsOf input) 0 none) (g : S ≡ settingsFrom (eqb (r .kind) 240) r)
+    (f : r ≡ getD (recordsOf input) 0 zeroRec) (g : S ≡ settingsFrom (eqb (r .kind) 240) r)
     (a : at ≡ min (16 * (p .place + p .calls + p .index)) (length input)) (k : code ≡ take (length input - at) (drop at input))
     (s : starts ≡ startsIn (drop 1 (recordsOf input))) where
   code-as : code ≡ codeOf input

@@ -6,7 +6,7 @@ use mathlib.Core.List.{List}
 use lib.Dec.{eqb, ltb}
 use lib.ListN.{length, getD, take, drop}
 use Rattle.records.specs.declared.Rec.{Rec}
-use Rattle.records.specs.Records.{recordsOf, none}
+use Rattle.records.specs.Records.{recordsOf, zeroRec}
 use Rattle.inputs.specs.Input.{bit, settingsOf, startsIn}
 use Rattle.walk_inputs.specs.declared.Plan.{Plan}
 
@@ -20,7 +20,7 @@ startsOf input = startsIn (drop 1 (recordsOf input))
 
 -- the record at a place where it is of that kind; a record of zeros where it is missing
 unfoldable pub recordOf : ℕ → List Rec → ℕ → Rec
-recordOf kind rs at = let r = getD rs at none in cond (eqb (r .kind) kind) r none
+recordOf kind rs at = let r = getD rs at zeroRec in cond (eqb (r .kind) kind) r zeroRec
 
 -- a missing record takes no place
 abbrev pub placeOf : Rec → ℕ
@@ -29,7 +29,7 @@ placeOf r = cond (eqb (r .kind) 0) 0 1
 -- 243 stands only where 242 says that an index is handed in
 abbrev pub givenOf : Bool → List Rec → ℕ → Rec
 givenOf true rs at = recordOf 243 rs at
-givenOf false rs at = none
+givenOf false rs at = zeroRec
 
 -- 242: half the length of out, word the number of call records, long the capacity, sub bit 0 an index is handed in; 243: word the number of
 -- index records, long the record count. Of calls and index records as many are taken as there are; a capacity above 65,535 counts as 65,535

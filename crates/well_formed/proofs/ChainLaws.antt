@@ -10,7 +10,7 @@ use lib.Dec.{eqb}
 use lib.ListN.{length, getD, set, length-set}
 use lib.Seq.{slice, slice-empty, length-slice}
 use Rattle.records.specs.declared.Rec.{Rec}
-use Rattle.records.specs.Records.{none}
+use Rattle.records.specs.Records.{zeroRec}
 use Rattle.indexing_iter.proofs.Parts.{slice-done}
 use Rattle.indexing.specs.Chains.{Chained}
 use Rattle.indexing.proofs.Tests.{and-true}
@@ -46,7 +46,7 @@ ending R to m = slice (to - m) to R
 ending-none : (R : List Rec) (to : ℕ) → ending R to 0 ≡ []
 ending-none R to = slice-done R (to - 0) to (omega arith)
 
-ending-more : (R : List Rec) (to m : ℕ) → to ≤ length R → m < to → ending R to (suc m) ≡ getD R (to - suc m) none ∷ ending R to m
+ending-more : (R : List Rec) (to m : ℕ) → to ≤ length R → m < to → ending R to (suc m) ≡ getD R (to - suc m) zeroRec ∷ ending R to m
 ending-more R to m high h = slice-back R (to - m) (to - suc m) to (omega arith) (omega arith) high
 
 length-ending : (R : List Rec) (to m : ℕ) → to ≤ length R → m ≤ to → length (ending R to m) ≡ m
@@ -66,7 +66,7 @@ module _ (R : List Rec) (links : List ℕ) (to size at : ℕ) (r : Rec) where
   At p = Reached (inBucket size R to) links (bucketOf size r) (to - (at + 1)) (λ (m : ℕ). among r (ending R to m)) p
 
   module _ (h : at < to) (high : to ≤ length R) where
-    one-more : (m : ℕ) → m < to → among r (ending R to (suc m)) ≡ sameFields r (getD R (to - suc m) none) || among r (ending R to m)
+    one-more : (m : ℕ) → m < to → among r (ending R to (suc m)) ≡ sameFields r (getD R (to - suc m) zeroRec) || among r (ending R to m)
     unfolding among
     one-more m k = rw (ending-more R to m high k) refl
 
@@ -76,11 +76,11 @@ module _ (R : List Rec) (links : List ℕ) (to size at : ℕ) (r : Rec) where
     -- entries of other buckets are passed over
     quiet : (i : ℕ) → i < to - (at + 1) → inBucket size R to (bucketOf size r) i ≡ false → among r (ending R to (suc i)) ≡ among r (ending R to i)
     unfolding inBucket
-    quiet i k e = rw (one-more i (omega arith), other-bucket size r (getD R (to - suc i) none) e) refl
+    quiet i k e = rw (one-more i (omega arith), other-bucket size r (getD R (to - suc i) zeroRec) e) refl
 
-    pub found : (p m : ℕ) → p ≡ suc m → At p → sameFields r (getD R (to - p) none) ≡ true → among r (slice (at + 1) to R) ≡ true
+    pub found : (p m : ℕ) → p ≡ suc m → At p → sameFields r (getD R (to - p) zeroRec) ≡ true → among r (slice (at + 1) to R) ≡ true
     found p m n x e =
-        let i : sameFields r (getD R (to - suc m) none) ≡ true = rw n at e in
+        let i : sameFields r (getD R (to - suc m) zeroRec) ≡ true = rw n at e in
         let y : among r (ending R to (suc m)) ≡ among r (slice (at + 1) to R) = rw n at (told p x) in
         sym y ∙ rw (one-more m (omega (arith, x .within)), i) refl
 
@@ -100,9 +100,9 @@ module _ (R : List Rec) (links : List ℕ) (to size at : ℕ) (r : Rec) where
       pub shorter : (p m : ℕ) → p ≡ suc m → At p → getD links m 0 ≤ m
       shorter p m n x = chain-less _ _ _ _ _ quiet heads C p m n x
 
-      pub follow : (p m : ℕ) → p ≡ suc m → At p → sameFields r (getD R (to - p) none) ≡ false → At (getD links m 0)
+      pub follow : (p m : ℕ) → p ≡ suc m → At p → sameFields r (getD R (to - p) zeroRec) ≡ false → At (getD links m 0)
       follow p m n x e =
-          let i : sameFields r (getD R (to - suc m) none) ≡ false = rw n at e in
+          let i : sameFields r (getD R (to - suc m) zeroRec) ≡ false = rw n at e in
           chain-next _ _ _ _ _ quiet heads C p m n x (rw (one-more m (omega (arith, x .within)), i) refl)
 
 -- ---- distinct keys
@@ -111,7 +111,7 @@ distinct-less : (R : List Rec) (d from i to : ℕ) → from + d ≡ i → i ≤ 
 distinct-less R zero from i to e h k f = let z : from ≡ i = omega arith in rw z f
 distinct-less R (suc d) from i to e h k f =
     let z : distinctKeys (slice (from + 1) to R) ≡ false = distinct-less R d (from + 1) i to (omega arith) h k f in
-    rw (distinct-step (getD R from none) R from to (omega arith) k refl, z) (none-both (not (among (getD R from none) (slice (from + 1) to R))))
+    rw (distinct-step (getD R from zeroRec) R from to (omega arith) k refl, z) (none-both (not (among (getD R from zeroRec) (slice (from + 1) to R))))
   where
     none-both : (t : Bool) → t && false ≡ false
     none-both true = refl
@@ -135,8 +135,8 @@ module _ (R : List Rec) (to : ℕ) (heads links : List ℕ) (i j n b : ℕ) (nex
   pub read-behind : Chained (inBucket (length heads) R to) heads links (to - (j + 1))
   read-behind = rw next (x .chains)
 
-  pub read-more : (heads′ links′ : List ℕ) (r : Rec) → r ≡ getD R j none → b ≡ bucketOf (length heads) r → b < length heads → n ≡ to - i → n < length links
-      → among (getD R j none) (slice (j + 1) to R) ≡ false → heads′ ≡ set heads b (n + 1) → links′ ≡ set links n (getD heads b 0)
+  pub read-more : (heads′ links′ : List ℕ) (r : Rec) → r ≡ getD R j zeroRec → b ≡ bucketOf (length heads) r → b < length heads → n ≡ to - i → n < length links
+      → among (getD R j zeroRec) (slice (j + 1) to R) ≡ false → heads′ ≡ set heads b (n + 1) → links′ ≡ set links n (getD heads b 0)
       → ReadFrom R to heads′ links′ j
   unfolding inBucket
   read-more heads′ links′ r e f h m k a u v =
@@ -146,10 +146,10 @@ module _ (R : List Rec) (to : ℕ) (heads links : List ℕ) (i j n b : ℕ) (nex
       let l : length (set heads b (n + 1)) ≡ length heads = length-set heads b (n + 1) in
       let c = chained-more (inBucket (length heads) R to) heads links (to - i) (x .chains) b h (omega arith) (λ d. rw (g, ← e, ← f) refl) in
       record {
-        once = rw (distinct-step (getD R j none) R j to (omega arith) high refl, a, d) refl;
+        once = rw (distinct-step (getD R j zeroRec) R j to (omega arith) high refl, a, d) refl;
         chains = rw (u, v, l, o, m) c;
       }
 
-  pub read-twice : (from : ℕ) → from ≤ j → among (getD R j none) (slice (j + 1) to R) ≡ true → distinctKeys (slice from to R) ≡ false
+  pub read-twice : (from : ℕ) → from ≤ j → among (getD R j zeroRec) (slice (j + 1) to R) ≡ true → distinctKeys (slice from to R) ≡ false
   read-twice from h a =
-      distinct-less R (j - from) from j to (omega arith) (omega arith) high (rw (distinct-step (getD R j none) R j to (omega arith) high refl, a) refl)
+      distinct-less R (j - from) from j to (omega arith) (omega arith) high (rw (distinct-step (getD R j zeroRec) R j to (omega arith) high refl, a) refl)

@@ -7,7 +7,7 @@ use mathlib.Core.List.{List, [], _∷_}
 use lib.Dec.{T}
 use lib.ListN.{set, take}
 use Rattle.records.specs.declared.Rec.{Rec}
-use Rattle.records.specs.Records.{rec}
+use Rattle.records.specs.Records.{recOf}
 use Rattle.indexing_iter.specs.Clauses.{known}
 use Rattle.indexing.proofs.Sample.{line, switch, demand, dead, entry, inner, offset, deadClause, listing, all}
 use Rattle.well_formed.specs.WellFormed.{wellFormed}
@@ -58,12 +58,12 @@ bad =
     -- a line without offset; tags 0, 6 and 7
     ∷ take 10 listing ∷ but 5 (offset 0 1) ∷ but 5 (offset 6 1) ∷ but 5 (offset 7 1)
     -- fields not zero: of a line, a switch, an on-demand table, an offset, a dead table and its clause
-    ∷ but 0 (rec 1 0 1 0 0) ∷ but 0 (rec 1 0 0 0 1) ∷ but 1 (rec 2 1 1 0 0) ∷ but 1 (rec 2 0 1 1 0) ∷ but 1 (rec 2 0 1 0 1)
-    ∷ but 4 (rec 3 1 2 0 0) ∷ but 4 (rec 3 0 2 1 0) ∷ but 4 (rec 3 0 2 0 1) ∷ but 5 (rec 6 1 1 1 0) ∷ but 5 (rec 6 1 0 1 1) ∷ but 4 (rec 4 1 2 0 0)
-    ∷ (line 0 0 ∷ dead 1 ∷ rec 7 1 0 1 0 ∷ offset 1 1 ∷ []) ∷ (line 0 0 ∷ dead 1 ∷ rec 7 0 0 1 1 ∷ offset 1 1 ∷ [])
+    ∷ but 0 (recOf 1 0 1 0 0) ∷ but 0 (recOf 1 0 0 0 1) ∷ but 1 (recOf 2 1 1 0 0) ∷ but 1 (recOf 2 0 1 1 0) ∷ but 1 (recOf 2 0 1 0 1)
+    ∷ but 4 (recOf 3 1 2 0 0) ∷ but 4 (recOf 3 0 2 1 0) ∷ but 4 (recOf 3 0 2 0 1) ∷ but 5 (recOf 6 1 1 1 0) ∷ but 5 (recOf 6 1 0 1 1) ∷ but 4 (recOf 4 1 2 0 0)
+    ∷ (line 0 0 ∷ dead 1 ∷ recOf 7 1 0 1 0 ∷ offset 1 1 ∷ []) ∷ (line 0 0 ∷ dead 1 ∷ recOf 7 0 0 1 1 ∷ offset 1 1 ∷ [])
     -- a dead clause outside a dead table, an entry outside a switch, a table behind offsets, kinds 0 and 8
     ∷ (line 0 0 ∷ demand 1 ∷ deadClause 1 ∷ offset 1 1 ∷ []) ∷ (line 0 0 ∷ switch 1 ∷ deadClause 1 ∷ offset 1 1 ∷ []) ∷ but 1 (demand 1)
-    ∷ (line 0 0 ∷ offset 1 1 ∷ demand 2 ∷ []) ∷ but 4 (rec 0 0 2 0 0) ∷ but 4 (rec 8 0 0 1 0) ∷ []
+    ∷ (line 0 0 ∷ offset 1 1 ∷ demand 2 ∷ []) ∷ but 4 (recOf 0 0 2 0 0) ∷ but 4 (recOf 8 0 0 1 0) ∷ []
 
 -- dynamic: static lines, an external pointer, static tags
 abbrev badDynamic : List (List Rec)

@@ -20,7 +20,7 @@ use Rattle.indexing.specs.Build.{Program, consOpt, single, consLine, pointer, a
 use Rattle.indexing.specs.Build.{newLine, keysAt, literals, lists, structures, bucketOf, lone, linesFor, entriesFor}
 use Rattle.indexing.specs.Expand.{initial, expanded, added, expand, seed, build}
 use Rattle.indexing.specs.Lines.{Ptr, ext, int, Entry, Table, switch, onDemand, dead, Choice, Line, Index, noLine, lineAt, offs, argOf, swap}
-use Rattle.indexing.specs.Lists.{add, keep, any, every}
+use Rattle.indexing.specs.Lists.{add, keep, anyOf, every}
 use Rattle.well_formed.proofs.SwitchKeys.{Once, once-keep, once-distinct, group-ok, keys-append}
 use Rattle.well_formed.specs.WellFormed.{risingOk, keyOk, keysOk, entryKeys, tagOk, someOk, choicesOk}
 
@@ -154,12 +154,12 @@ module _ (P : Program) (known : ℕ → Bool) where
     entries-keys d (k ∷ ks) = ap (λ (ls : List Key). k ∷ ls) (entries-keys (after (lone P (offs (bucketOf P a cs k))) d) ks)
 
     -- a key that occurs has a bucket
-    some-kept : (p : Choice → Bool) (ds : List Choice) → any p ds ≡ true → (d : Bool) → someOk d (keep p ds) ≡ true
+    some-kept : (p : Choice → Bool) (ds : List Choice) → anyOf p ds ≡ true → (d : Bool) → someOk d (keep p ds) ≡ true
     some-kept p ds e true = refl
     some-kept p [] e false = e
     some-kept p (c ∷ ds) e false = go (p c) e (λ f. some-kept p ds f false)
       where
-        go : (x : Bool) → x || any p ds ≡ true → (any p ds ≡ true → someOk false (keep p ds) ≡ true) → someOk false (add x c (keep p ds)) ≡ true
+        go : (x : Bool) → x || anyOf p ds ≡ true → (anyOf p ds ≡ true → someOk false (keep p ds) ≡ true) → someOk false (add x c (keep p ds)) ≡ true
         go true e ih = refl
         go false e ih = ih e
 
@@ -171,10 +171,10 @@ module _ (P : Program) (known : ℕ → Bool) where
       occur (pre ++ (c ∷ [])) ds (e ∙ sym (append-assoc pre (c ∷ []) ds)),
     )
       where
-        here : any (λ d. same (P .keyOf (d .offset) a) (P .keyOf (c .offset) a)) cs ≡ true
+        here : anyOf (λ d. same (P .keyOf (d .offset) a) (P .keyOf (c .offset) a)) cs ≡ true
         here =
             rw (e, any-append (λ d. same (P .keyOf (d .offset) a) (P .keyOf (c .offset) a)) pre (c ∷ ds), same-refl (P .keyOf (c .offset) a))
-            (or-true (any (λ d. same (P .keyOf (d .offset) a) (P .keyOf (c .offset) a)) pre))
+            (or-true (anyOf (λ d. same (P .keyOf (d .offset) a) (P .keyOf (c .offset) a)) pre))
 
     live : All Live (keysAt P a (offs cs))
     live = all-distinct Live same (map (λ o. P .keyOf o a) (offs cs)) (occur [] cs refl)

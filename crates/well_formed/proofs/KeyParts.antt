@@ -9,11 +9,11 @@ use lib.Dec.{eqb}
 use lib.ListN.{length, getD, take}
 use lib.Seq.{slice}
 use Rattle.records.specs.declared.Rec.{Rec}
-use Rattle.records.specs.Records.{none}
+use Rattle.records.specs.Records.{zeroRec}
 use Rattle.indexing_iter.specs.Keys.{same}
 use Rattle.indexing_iter.proofs.Parts.{slice-step, slice-done}
 use Rattle.indexing.specs.Lines.{Ptr, Entry}
-use Rattle.indexing.specs.Lists.{any}
+use Rattle.indexing.specs.Lists.{anyOf}
 use Rattle.indexing.specs.Reading.{entryFrom}
 use Rattle.well_formed.specs.WellFormed.{entryKeys}
 use Rattle.well_formed.specs.Pass.{groupBySort, formOk, sameFields, among, distinctKeys, once}
@@ -21,7 +21,7 @@ use Rattle.well_formed.proofs.PassParts.{group-sort, form-key}
 use Rattle.well_formed.proofs.Turns.{Forms, Behind}
 
 pub among-step : (r : Rec) (rs : List Rec) (i end : ℕ) → i < end → end ≤ length rs
-    → among r (slice i end rs) ≡ (sameFields r (getD rs i none) || among r (slice (i + 1) end rs))
+    → among r (slice i end rs) ≡ (sameFields r (getD rs i zeroRec) || among r (slice (i + 1) end rs))
 unfolding among
 among-step r rs i end h k = rw (slice-step rs i end h k) refl
 
@@ -29,7 +29,7 @@ pub among-none : (r : Rec) (rs : List Rec) (i end : ℕ) → end ≤ i → among
 unfolding among
 among-none r rs i end h = rw (slice-done rs i end h) refl
 
-pub distinct-step : (r : Rec) (rs : List Rec) (i end : ℕ) → i < end → end ≤ length rs → r ≡ getD rs i none
+pub distinct-step : (r : Rec) (rs : List Rec) (i end : ℕ) → i < end → end ≤ length rs → r ≡ getD rs i zeroRec
     → distinctKeys (slice i end rs) ≡ (not (among r (slice (i + 1) end rs)) && distinctKeys (slice (i + 1) end rs))
 unfolding distinctKeys
 distinct-step r rs i end h k e = rw (slice-step rs i end h k, e) refl
@@ -64,7 +64,7 @@ fields-same r q e f =
     (λ z. eq-eqb (groupBySort (r .sub)) (groupBySort (q .sub)) (ap groupBySort (eqb-true (r .sub) (q .sub) z))))
 
 any-among : (r : Rec) (qs : List Rec) → formOk (r .sub) (r .half) (r .long) ≡ true → Forms qs
-    → any (same (entryFrom r .key)) (entryKeys (map entryFrom qs)) ≡ among r qs
+    → anyOf (same (entryFrom r .key)) (entryKeys (map entryFrom qs)) ≡ among r qs
 unfolding among
 any-among r [] e f = refl
 any-among r (q ∷ qs) e f = ap₂ (λ (x y : Bool). x || y) (fields-same r q e (f .0)) (any-among r qs e (f .1))

@@ -12,7 +12,7 @@ use lib.Dec.{eqb, ltb}
 use lib.ListN.{length, getD, drop, set, replicate, drop-of-length-le}
 use lib.Seq.{slice, getD-set-same, getD-set-other}
 use Rattle.records.specs.declared.Rec.{Rec}
-use Rattle.records.specs.Records.{none}
+use Rattle.records.specs.Records.{zeroRec}
 use Rattle.indexing_iter.specs.Checks.{risingBelow}
 use Rattle.indexing_iter.specs.Clauses.{known}
 use Rattle.indexing_iter.proofs.CheckLaws.{drop-step, start-known, known-range}
@@ -28,7 +28,7 @@ use Rattle.well_formed.proofs.Turns.{turn-of, turn-lines}
 
 -- ---- lines
 
-pub lines-more : (R : List Rec) (count i j n : ℕ) (r : Rec) → j + 1 ≡ i → i ≤ count → count ≤ length R → r ≡ getD R j none
+pub lines-more : (R : List Rec) (count i j n : ℕ) (r : Rec) → j + 1 ≡ i → i ≤ count → count ≤ length R → r ≡ getD R j zeroRec
     → n ≡ length (parse (slice i count R)) → n + oneLine (r .kind) ≡ length (parse (slice j count R))
 lines-more R count i j n r next low high here e =
     let w : Waiting = readAll (slice i count R) nothing in

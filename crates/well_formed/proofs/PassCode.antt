@@ -10,7 +10,7 @@ use lib.Dec.{eqb, ltb}
 use lib.ListN.{length, getD, take, drop, set, take-append-drop}
 use lib.Seq.{slice, getD-set-same, getD-set-other, length-slice, take-take, take-nil}
 use Rattle.records.specs.declared.Rec.{Rec}
-use Rattle.records.specs.Records.{none}
+use Rattle.records.specs.Records.{zeroRec}
 use Rattle.indexing_iter.proofs.Parts.{slice-step}
 use Rattle.indexing.proofs.Tests.{bool-absurd, and-true, both, not-true}
 use Rattle.indexing.specs.Lines.{Ptr, ext, int, Line, Index, lineAt}
@@ -33,8 +33,8 @@ slice-front : {A : Type 0} (f e t : ℕ) (l : List A) → f + e ≤ t → slice 
 slice-front f e t l h = ap (drop f) (sym (take-take (f + e) t l h)) ∙ drop-take-add f e (take t l)
 
 -- one record more in front
-pub slice-back : (rs : List Rec) (i j end : ℕ) → j + 1 ≡ i → i ≤ end → end ≤ length rs → slice j end rs ≡ getD rs j none ∷ slice i end rs
-slice-back rs i j end e h k = slice-step rs j end (omega arith) k ∙ ap (λ (n : ℕ). getD rs j none ∷ slice n end rs) e
+pub slice-back : (rs : List Rec) (i j end : ℕ) → j + 1 ≡ i → i ≤ end → end ≤ length rs → slice j end rs ≡ getD rs j zeroRec ∷ slice i end rs
+slice-back rs i j end e h k = slice-step rs j end (omega arith) k ∙ ap (λ (n : ℕ). getD rs j zeroRec ∷ slice n end rs) e
 
 -- ---- the first arguments of the lines behind
 
@@ -152,7 +152,7 @@ module _ (arity : ℕ) (dynamic : Bool) (known : ℕ → Bool) (total : ℕ) whe
     pub low : i ≤ count
     pub high : count ≤ length R
     pub held : s .entries + i ≤ count
-    pub is : r ≡ getD R (i - 1) none
+    pub is : r ≡ getD R (i - 1) zeroRec
 
   module _ {R : List Rec} {count i : ℕ} {r : Rec} {s : Waits} {firsts : List ℕ} (h : Here R count i r s firsts) where
     front : slice (i - 1) count R ≡ r ∷ slice i count R

@@ -9,7 +9,7 @@ use borrow.Author.Tests.{lt-ltb, eq-eqb}
 use lib.Dec.{eqb, leb, ltb}
 use lib.ListN.{length}
 use Rattle.records.specs.declared.Rec.{Rec}
-use Rattle.records.specs.Records.{rec}
+use Rattle.records.specs.Records.{recOf}
 use Rattle.indexing_iter.specs.declared.OptArgIndexKey.{OptArgIndexKey as Key}
 use Rattle.indexing_iter.specs.declared.OptArgIndexKey.the-variants.{None, Literal, Structure, List as ListKey}
 use Rattle.indexing_iter.specs.Keys.{sortOf, arityOf, bitsOf, groupOf, same}
@@ -19,7 +19,7 @@ use Rattle.indexing.proofs.Reading.{parse-records}
 use Rattle.indexing.proofs.Tests.{bool-absurd, eqb-same, eqb-other, and-true, both, le-true, le-of}
 use Rattle.indexing.specs.Lines.{Ptr, Entry, Table, switch, onDemand, dead, argOf, Choice, Index, offs, entryRec, deadRec, tableRecs}
 use Rattle.indexing.specs.Lines.{tablesRecs, choiceRec, modeOf, lineRec, records}
-use Rattle.indexing.specs.Lists.{any, every}
+use Rattle.indexing.specs.Lists.{anyOf, every}
 use Rattle.indexing.specs.Reading.{Waiting, waiting, readAll}
 use Rattle.well_formed.specs.WellFormed.{risingOk, argsOk, keyOk, keysOk, entryKeys, tagOk, someOk}
 use Rattle.well_formed.specs.Pass.{firstArg, firstOf, firstGroup, least, waits, groupBySort, formOk, tagIn, idle, bare, lineStep, tableStep, switchStep}
@@ -52,7 +52,7 @@ group-first k [] e = group-top k
 group-first k (x ∷ es) e =
     let ks : List Key = entryKeys es in
     let l : Key = x .key in
-    le-of (groupOf k) (groupOf l) (and-true (leb (groupOf k) (groupOf l)) (keyOk l && (not (any (same l) ks) && keysOk (groupOf l) ks)) e .0)
+    le-of (groupOf k) (groupOf l) (and-true (leb (groupOf k) (groupOf l)) (keyOk l && (not (anyOf (same l) ks) && keysOk (groupOf l) ks)) e .0)
 
 module _ (arity : ℕ) (dynamic : Bool) (known : ℕ → Bool) (total : ℕ) where
   pass-append : (w : Waiting) (xs ys : List Rec) → pass arity dynamic known total (readAll ys w) xs ≡ true → pass arity dynamic known total w ys ≡ true
@@ -105,8 +105,8 @@ module _ (arity : ℕ) (dynamic : Bool) (known : ℕ → Bool) (total : ℕ) whe
     entries-pass g (x ∷ es) e f =
         let k : Key = x .key in
         let ks : List Key = entryKeys es in
-        let y = and-true (leb g (groupOf k)) (keyOk k && (not (any (same k) ks) && keysOk (groupOf k) ks)) e in
-        let z = and3 (keyOk k) (not (any (same k) ks)) (keysOk (groupOf k) ks) (y .1) in
+        let y = and-true (leb g (groupOf k)) (keyOk k && (not (anyOf (same k) ks) && keysOk (groupOf k) ks)) e in
+        let z = and3 (keyOk k) (not (anyOf (same k) ks)) (keysOk (groupOf k) ks) (y .1) in
         let u = key-form k (z .0) in
         let h : groupBySort (sortOf k) ≤ firstGroup es = omega (arith, u .1, group-first k es (z .2)) in
         pass-front (from ts cs ls) (waiting es [] ts cs ls) (entryRec x) (map entryRec es) (entries-are es (f .1))
@@ -125,12 +125,12 @@ module _ (arity : ℕ) (dynamic : Bool) (known : ℕ → Bool) (total : ℕ) whe
           → pass arity dynamic known total (from ts cs ls) (tableRecs t) ≡ true
       unfolding pass stepOk idle switchStep demandStep deadStep tableStep keysOnce
       table-pass (switch a es) e f g =
-          pass-front (from ts cs ls) (waiting es [] ts cs ls) (rec 2 0 a 0 0) (map entryRec es) (entries-are es g)
+          pass-front (from ts cs ls) (waiting es [] ts cs ls) (recOf 2 0 a 0 0) (map entryRec es) (entries-are es g)
           (both (lt-ltb a (least dynamic known ls es) (f .1)) (arg-passes a e)) (keys-once 1 (entryKeys es) (f .0)) (entries-pass 1 es (f .0) g)
-      table-pass (onDemand a) e f g = pass-front (from ts cs ls) (from ts cs ls) (rec 3 0 a 0 0) [] refl (arg-passes a e) refl refl
+      table-pass (onDemand a) e f g = pass-front (from ts cs ls) (from ts cs ls) (recOf 3 0 a 0 0) [] refl (arg-passes a e) refl refl
       table-pass (dead a os) e f g =
           let q : readAll (map deadRec os) (from ts cs ls) ≡ waiting [] os ts cs ls = read-deads os (from ts cs ls) ∙ rw (append-nil os) in
-          pass-front (from ts cs ls) (waiting [] os ts cs ls) (rec 4 0 a 0 0) (map deadRec os) q (arg-passes a e) refl (clauses-pass 1 os f)
+          pass-front (from ts cs ls) (waiting [] os ts cs ls) (recOf 4 0 a 0 0) (map deadRec os) q (arg-passes a e) refl (clauses-pass 1 os f)
 
   module _ (small : arity ≤ 32) where
     tables-pass : (n : ℕ) (ts : List Table) (cs : List Choice) (ls : Index) → 1 ≤ n → argsOk arity n ts ≡ true → All (FineTable arity dynamic known ls) ts

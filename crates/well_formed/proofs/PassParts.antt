@@ -9,13 +9,13 @@ use borrow.Author.Tests.{ltb-true, ltb-false, lt-ltb}
 use lib.Dec.{eqb, leb, ltb}
 use lib.ListN.{length}
 use Rattle.records.specs.declared.Rec.{Rec}
-use Rattle.records.specs.Records.{rec}
+use Rattle.records.specs.Records.{recOf}
 use Rattle.indexing_iter.specs.declared.OptArgIndexKey.{OptArgIndexKey as Key}
 use Rattle.indexing_iter.specs.declared.OptArgIndexKey.the-variants.{None, Literal, Structure, List as ListKey}
 use Rattle.indexing_iter.specs.Keys.{sortOf, arityOf, bitsOf, groupOf, same}
 use Rattle.indexing.proofs.Tests.{bool-absurd, eqb-true, and-true, both, le-true, le-of}
 use Rattle.indexing.specs.Lines.{Ptr, ext, int, Entry, Table, argOf, word, entryRec}
-use Rattle.indexing.specs.Lists.{any}
+use Rattle.indexing.specs.Lists.{anyOf}
 use Rattle.indexing.specs.Reading.{keyFrom, pointerFrom, entryFrom}
 use Rattle.well_formed.specs.WellFormed.{risingOk, argsOk, keyOk, keysOk, entryKeys}
 use Rattle.well_formed.specs.Pass.{firstArg, firstOf, firstGroup, groupBySort, formOk, idle, bare, rises, once}
@@ -42,7 +42,7 @@ idle-told s e = and-true (eqb (s .entries) 0) (eqb (s .clause) 0) e
 
 -- ---- what stands in a record
 
-pub rec-is : (r : Rec) (k s h w l : ℕ) → r .kind ≡ k → r .sub ≡ s → r .half ≡ h → r .word ≡ w → r .long ≡ l → r ≡ rec k s h w l
+pub rec-is : (r : Rec) (k s h w l : ℕ) → r .kind ≡ k → r .sub ≡ s → r .half ≡ h → r .word ≡ w → r .long ≡ l → r ≡ recOf k s h w l
 rec-is r k s h w l a b c d e = λ i. record { kind = a i; sub = b i; half = c i; word = d i; long = e i }
 
 pub bare-told : (r : Rec) → bare r ≡ true → (r .half ≡ 0) × (r .long ≡ 0)
@@ -146,14 +146,14 @@ pub groups-keys : (g : ℕ) (ks : List Key) → groupsOk g ks ≡ true → once 
 groups-keys g [] e f = refl
 groups-keys g (k ∷ ks) e f =
     let x = and3 (leb g (groupOf k)) (keyOk k) (groupsOk (groupOf k) ks) e in
-    let y = and-true (not (any (same k) ks)) (once ks) f in
+    let y = and-true (not (anyOf (same k) ks)) (once ks) f in
     both (x .0) (both (x .1) (both (y .0) (groups-keys (groupOf k) ks (x .2) (y .1))))
 
 pub keys-once : (g : ℕ) (ks : List Key) → keysOk g ks ≡ true → once ks ≡ true
 keys-once g [] e = refl
 keys-once g (k ∷ ks) e =
-    let x = and-true (leb g (groupOf k)) (keyOk k && (not (any (same k) ks) && keysOk (groupOf k) ks)) e in
-    let y = and3 (keyOk k) (not (any (same k) ks)) (keysOk (groupOf k) ks) (x .1) in
+    let x = and-true (leb g (groupOf k)) (keyOk k && (not (anyOf (same k) ks) && keysOk (groupOf k) ks)) e in
+    let y = and3 (keyOk k) (not (anyOf (same k) ks)) (keysOk (groupOf k) ks) (x .1) in
     both (y .1) (keys-once (groupOf k) ks (y .2))
 
 pub groups-front : (g : ℕ) (es : List (Entry Ptr)) → groupsOk 1 (entryKeys es) ≡ true → g ≤ firstGroup es → groupsOk g (entryKeys es) ≡ true

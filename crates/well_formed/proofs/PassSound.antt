@@ -9,7 +9,7 @@ use borrow.Author.Tests.{ltb-true}
 use lib.Dec.{eqb, leb, ltb}
 use lib.ListN.{length}
 use Rattle.records.specs.declared.Rec.{Rec}
-use Rattle.records.specs.Records.{rec}
+use Rattle.records.specs.Records.{recOf}
 use Rattle.indexing_iter.specs.Keys.{groupOf}
 use Rattle.indexing.proofs.Lists.{All}
 use Rattle.indexing.proofs.Tests.{bool-absurd, eqb-true, and-true, both, le-true, le-of}
@@ -79,7 +79,7 @@ module _ (arity : ℕ) (dynamic : Bool) (known : ℕ → Bool) (total : ℕ) whe
 
     -- a table's record: it is one, and its argument may stand in front of the tables read
     table-told : (k : ℕ) → r .kind ≡ k → tableStep arity r (waits dynamic known w) ≡ true
-        → (r ≡ rec k 0 (r .half) 0 0) × (leb 1 (r .half) && (leb (r .half) arity && argsOk arity (suc (r .half)) (w .tables)) ≡ true)
+        → (r ≡ recOf k 0 (r .half) 0 0) × (leb 1 (r .half) && (leb (r .half) arity && argsOk arity (suc (r .half)) (w .tables)) ≡ true)
     unfolding tableStep
     table-told k f e =
         let x = and6 (eqb (r .sub) 0) (eqb (r .word) 0) (eqb (r .long) 0) (leb 1 (r .half)) (leb (r .half) arity) (ltb (r .half) (firstArg (w .tables))) e in (

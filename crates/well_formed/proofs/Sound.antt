@@ -24,7 +24,7 @@ use Rattle.indexing.proofs.Tests.{T-true, true-T, eqb-same, and-true, eqb-other
 use Rattle.indexing.specs.Build.{Program}
 use Rattle.indexing.specs.Expand.{expand, build}
 use Rattle.indexing.specs.Lines.{Ptr, ext, int, Entry, Table, switch, onDemand, dead, Line, Index, noLine, lineAt, argOf, find, modeOf, records}
-use Rattle.indexing.specs.Lists.{any, every}
+use Rattle.indexing.specs.Lists.{anyOf, every}
 use Rattle.indexing.specs.Reading.{parse}
 use Rattle.well_formed.proofs.GoodLines.{GoodPtr, GoodTable, GoodLine, expand-good, built-good}
 use Rattle.well_formed.proofs.SwitchKeys.{keys-parts}
@@ -94,7 +94,7 @@ module _ (P : Program) (known : ℕ → Bool) (small : (o : ℕ) → known o ≡
   fit-entries g [] e f = tt
   fit-entries g (x ∷ es) e f =
       let p = keys-parts g (x .key) (entryKeys es) e in
-      let k = and-true (keyOk (x .key)) (not (any (same (x .key)) (entryKeys es)) && keysOk (groupOf (x .key)) (entryKeys es)) (p .1) .0 in
+      let k = and-true (keyOk (x .key)) (not (anyOf (same (x .key)) (entryKeys es)) && keysOk (groupOf (x .key)) (entryKeys es)) (p .1) .0 in
       ((fit-key (x .key) k, go (x .to) (f .0)), fit-entries (groupOf (x .key)) es (p .2) (f .1))
     where
       go : (x : Ptr) → GoodPtr P known x → FitPtr x

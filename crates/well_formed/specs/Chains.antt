@@ -8,7 +8,7 @@ use Prim.Native.Nat.{ℕ, suc, _+_, _-_, _*_, _%_}
 use lib.Dec.{eqb}
 use lib.ListN.{getD}
 use Rattle.records.specs.declared.Rec.{Rec}
-use Rattle.records.specs.Records.{none}
+use Rattle.records.specs.Records.{zeroRec}
 
 -- an entry's bucket, of size many: of sort, arity and bits alone, so that equal keys have the same
 unfoldable pub bucketOf : ℕ → Rec → ℕ
@@ -20,4 +20,4 @@ Cleared table = (i : ℕ) → getD table i 0 ≡ 0
 
 -- entries up to a place are numbered from the last: bucket b, of size many, holds the entry that has i behind it
 unfoldable pub inBucket : ℕ → List Rec → ℕ → ℕ → ℕ → Bool
-inBucket size R to b i = eqb (bucketOf size (getD R (to - suc i) none)) b
+inBucket size R to b i = eqb (bucketOf size (getD R (to - suc i) zeroRec)) b

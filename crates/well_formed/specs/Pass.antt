@@ -11,7 +11,7 @@ use Rattle.records.specs.declared.Rec.{Rec}
 use Rattle.indexing_iter.specs.declared.OptArgIndexKey.{OptArgIndexKey as Key}
 use Rattle.indexing_iter.specs.Keys.{groupOf, same}
 use Rattle.indexing_iter.specs.Clauses.{known}
-use Rattle.indexing.specs.Lists.{any}
+use Rattle.indexing.specs.Lists.{anyOf}
 use Rattle.indexing.specs.Lines.{Ptr, ext, int, Entry, Table, argOf, Index, lineAt, offs, modeOf}
 use Rattle.indexing.specs.Reading.{Waiting, waiting, readAll, parse}
 use Rattle.well_formed.specs.WellFormed.{entryKeys}
@@ -211,7 +211,7 @@ distinctKeys (r ∷ rs) = let rest = distinctKeys rs in not (among r rs) && rest
 -- no two of some keys are equal
 abbrev pub once : List Key → Bool
 once [] = true
-once (k ∷ ks) = not (any (same k) ks) && once ks
+once (k ∷ ks) = not (anyOf (same k) ks) && once ks
 
 -- the keys of a switch are looked at when its record is met
 unfoldable pub keysOnce : ℕ → List (Entry Ptr) → Bool

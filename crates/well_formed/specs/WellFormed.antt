@@ -10,7 +10,7 @@ use Rattle.records.specs.declared.Rec.{Rec}
 use Rattle.indexing_iter.specs.declared.OptArgIndexKey.{OptArgIndexKey as Key}
 use Rattle.indexing_iter.specs.declared.OptArgIndexKey.the-variants.{None, Literal, Structure, List as ListKey}
 use Rattle.indexing_iter.specs.Keys.{groupOf, same}
-use Rattle.indexing.specs.Lists.{any, every}
+use Rattle.indexing.specs.Lists.{anyOf, every}
 use Rattle.indexing.specs.Lines.{Ptr, ext, int, Entry, Table, switch, onDemand, dead, argOf, Choice, Line, Index, lineAt, offs, modeOf, records}
 use Rattle.indexing.specs.Reading.{parse}
 
@@ -34,7 +34,7 @@ keyOk ListKey = true
 -- number 12, the keys of a switch: literals, list, structures, from the group g on, all distinct
 abbrev pub keysOk : ℕ → List Key → Bool
 keysOk g [] = true
-keysOk g (k ∷ ks) = leb g (groupOf k) && (keyOk k && (not (any (same k) ks) && keysOk (groupOf k) ks))
+keysOk g (k ∷ ks) = leb g (groupOf k) && (keyOk k && (not (anyOf (same k) ks) && keysOk (groupOf k) ks))
 
 -- number 12: the keys of a switch's entries
 abbrev pub entryKeys : List (Entry Ptr) → List Key

@@ -6,7 +6,7 @@ ghost use Prim.Native.Nat.{_+_, _-_, _<_, _≤_};
 ghost use lib.Dec.{eqb};
 ghost use lib.ListN.{length, getD, set};
 ghost use lib.Seq.{slice};
-ghost use Rattle.records.specs.Records.{recordsOf, none};
+ghost use Rattle.records.specs.Records.{recordsOf, zeroRec};
 ghost use Rattle.well_formed.specs.Pass.{sameFields, among, distinctKeys};
 ghost use Rattle.indexing.specs.Chains.{Chained};
 ghost use Rattle.well_formed.specs.Chains.{bucketOf, inBucket, Cleared};
@@ -27,7 +27,7 @@ fn same_fields(r: Rec, q: Rec) -> bool
 // Whether the entry at a place has the key of r.
 fn key_at(index: &[u8], r: Rec, at: usize) -> bool
     requires { ⌜ at < length (recordsOf (now index)) ⌝ }
-    ensures { λ b. ⌜ b ≡ sameFields r (getD (recordsOf (now (index .entry))) at none) ⌝ }
+    ensures { λ b. ⌜ b ≡ sameFields r (getD (recordsOf (now (index .entry))) at zeroRec) ⌝ }
 {
     let q = records::get(index, at);
     same_fields(r, q)
@@ -87,9 +87,9 @@ fn key_chained(
     links: &[u16],
 ) -> bool
     requires { ⌜ (at < to) × (to ≤ length (recordsOf (now index))) × (to - at ≤ length (now links)) ⌝ }
-    requires { ⌜ (bucket ≡ bucketOf (length (now heads)) (getD (recordsOf (now index)) at none)) × (bucket < length (now heads)) ⌝ }
+    requires { ⌜ (bucket ≡ bucketOf (length (now heads)) (getD (recordsOf (now index)) at zeroRec)) × (bucket < length (now heads)) ⌝ }
     requires { ⌜ Chained (inBucket (length (now heads)) (recordsOf (now index)) to) (now heads) (now links) (to - (at + 1)) ⌝ }
-    ensures { λ b. ⌜ b ≡ among (getD (recordsOf (now (index .entry))) at none) (slice (at + 1) to (recordsOf (now (index .entry)))) ⌝ }
+    ensures { λ b. ⌜ b ≡ among (getD (recordsOf (now (index .entry))) at zeroRec) (slice (at + 1) to (recordsOf (now (index .entry)))) ⌝ }
 {
     let r = records::get(index, at);
     let mut number = heads[bucket] as usize;

@@ -6,7 +6,7 @@ use native.Mathlib.Omega.{arith}
 use lib.ListN.{length, getD, set, length-set}
 use lib.Seq.{slice}
 use borrow.Author.Needs.{needs}
-use Rattle.records.specs.Records.{recordsOf, none}
+use Rattle.records.specs.Records.{recordsOf, zeroRec}
 use Rattle.indexing_iter.specs.Keys.{bitsOf}
 use Rattle.indexing_iter.specs.Rows.{headOf}
 use Rattle.indexing_iter.proofs.Table.{classIn}
@@ -44,7 +44,7 @@ turn : (c : tie.After-extract-index-arg Inv-loop μ-loop)
 turn c =
     let at = c .before .before in
     let rs = recordsOf (at .before .before .before .before .before .before .before .before .before .before .before .before .before .before .args .code .now) in
-    filling-step (getD rs (at .loop .i) none) (slice (at .loop .i + 1) (at .before .capacity .result) rs) (c .extract-index-arg .result) (at .loop .inv .2)
+    filling-step (getD rs (at .loop .i) zeroRec) (slice (at .loop .i + 1) (at .before .capacity .result) rs) (c .extract-index-arg .result) (at .loop .inv .2)
     (slice-step rs (at .loop .i) (at .before .capacity .result) (c .before .loop-test .taken) (search needs)) (c .extract-index-arg .ensures)
 
 clear-keys-requires : tie.Need-clear-keys-requires Inv-loop μ-loop

@@ -3,7 +3,7 @@ use mathlib.Core.Path.{_≡_, refl, ap, _∙_}
 use Prim.Native.Nat.{ℕ, _-_, _≤_}
 use native.Mathlib.Omega.{arith}
 use lib.ListN.{length}
-use Rattle.records.specs.Records.{recordsOf, none, Wrote}
+use Rattle.records.specs.Records.{recordsOf, zeroRec, Wrote}
 use Rattle.records.specs.Moves.{moved}
 use Rattle.records.proofs.Laws.{length-recordsOf, wrote, wrote-is}
 use Rattle.records.proofs.MoveLaws.{moved-none, moved-more}
@@ -50,7 +50,7 @@ loop-again c =
       omega arith,
       e,
       wrote t (p .last .0) _ e
-          (moved-more (recordsOf t) (a .args .n) (a .args .k) (a .pre) (recordsOf (l .loop .tail)) (recordsOf (p .last .0)) i (i - 1) _ none
+          (moved-more (recordsOf t) (a .args .n) (a .args .k) (a .pre) (recordsOf (l .loop .tail)) (recordsOf (p .last .0)) i (i - 1) _ zeroRec
           (omega arith) (l .loop .inv .0) (w .records) (c .before .before .before .before .get .ensures) (p .ensures .records))
           (p .ensures .odd ∙ w .odd),
     )

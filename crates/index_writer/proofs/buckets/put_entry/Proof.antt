@@ -5,7 +5,7 @@ use Prim.Native.Nat.{ℕ, _/_, _%_, _<_}
 use native.Mathlib.Omega.{arith}
 use lib.ListN.{length, getD}
 use Rattle.records.specs.declared.Rec.{Rec}
-use Rattle.records.specs.Records.{rec, recordsOf}
+use Rattle.records.specs.Records.{recOf, recordsOf}
 use Rattle.records.proofs.Laws.{length-recordsOf}
 use Rattle.indexing.specs.Columns.{entryOf, entryAt}
 use Rattle.index_writer.proofs.Left.{one-room, puts-one, puts-none}
@@ -72,7 +72,7 @@ returns c =
     let a = s .args in
     let p = c .before .before .put in
     let head : ℕ = getD (a .heads .now) (a .i) 0 in
-    let e : ℕ → Rec = λ w. rec 5 (head / 65536 % 256) (head % 65536) w (getD (a .bits .now) (a .i) 0) in
+    let e : ℕ → Rec = λ w. recOf 5 (head / 65536 % 256) (head % 65536) w (getD (a .bits .now) (a .i) 0) in
     let w = c .before .before .before .before .before .before .pointer-to .ensures ∙ pointer-is (a .leaders .now) (a .heads .now) (a .bits .now) (a .offs .now) (a .dynamic) (a .d) (a .i) in
     puts-one (a .index .now) (p .last .0) (a .q) (opened t) (ap e w) (s .pre .1 .1) (p .ensures)
 

@@ -4,7 +4,7 @@ use mathlib.Core.List.{_∷_, []}
 use Prim.Native.Nat.{ℕ, _+_, _<_}
 use native.Mathlib.Omega.{arith}
 use lib.ListN.{length}
-use Rattle.records.specs.Records.{rec, recordsOf}
+use Rattle.records.specs.Records.{recOf, recordsOf}
 use Rattle.records.proofs.Laws.{length-recordsOf}
 use Rattle.indexing.specs.Columns.{entries, listEntries}
 use Rattle.index_writer.proofs.Left.{one-room, room-as, puts-one, puts-as}
@@ -14,7 +14,7 @@ use Rattle.index_writer.proofs.buckets.put_list_entries.Statement.{stat
 use Rattle.index_writer.proofs.buckets.put_list_entries.Tie as tie
 
 -- no clause has a list: one entry is to be written, and there is room for it
-none : (t : tie.Then1) → let a = t .before .before .before .before .before .before .before .before .args in listEntries (a .leaders .now) (a .heads .now) (a .bits .now) (a .offs .now) (a .dynamic) (a .d) ≡ rec 5 5 0 (2147483648 + a .d) 0 ∷ []
+none : (t : tie.Then1) → let a = t .before .before .before .before .before .before .before .before .args in listEntries (a .leaders .now) (a .heads .now) (a .bits .now) (a .offs .now) (a .dynamic) (a .d) ≡ recOf 5 5 0 (2147483648 + a .d) 0 ∷ []
 none t = let a = t .before .before .before .before .before .before .before .before .args in list-empty (a .leaders .now) (a .heads .now) (a .bits .now) (a .offs .now) (a .dynamic) (a .d) (sym (t .before .empty-list .ensures) ∙ t .if1 .taken)
 
 room : (t : tie.Then1) → let a = t .before .before .before .before .before .before .before .before .args in a .p < length (recordsOf (a .index .now))
@@ -46,7 +46,7 @@ returns c =
     let t = c .before .before .before .before .before in
     let a = t .before .before .before .before .before .before .before .before .args in
     let w = c .before .before .put in
-    puts-one (a .index .now) (w .last .0) (a .p) (none t) (ap (λ (x : ℕ). rec 5 5 0 x 0) (c .before .before .before .before .internal .ensures)) (t .before .before .before .before .before .before .before .before .pre .1 .1) (w .ensures)
+    puts-one (a .index .now) (w .last .0) (a .p) (none t) (ap (λ (x : ℕ). recOf 5 5 0 x 0) (c .before .before .before .before .internal .ensures)) (t .before .before .before .before .before .before .before .before .pre .1 .1) (w .ensures)
 
 put-entries-requires : tie.Need-put-entries-requires
 put-entries-requires c κs =

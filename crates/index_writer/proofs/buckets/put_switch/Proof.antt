@@ -4,7 +4,7 @@ use mathlib.Core.List.{List, _∷_, _++_}
 use Prim.Native.Nat.{ℕ, _+_}
 use native.Mathlib.Omega.{arith}
 use Rattle.records.specs.declared.Rec.{Rec}
-use Rattle.records.specs.Records.{rec}
+use Rattle.records.specs.Records.{recOf}
 use Rattle.records.proofs.Laws.{length-recordsOf}
 use Rattle.indexing.specs.Columns.{entries, listEntries, switchRecs}
 use Rattle.index_writer.proofs.Left.{Left, left-start, left-place, left-room, left-one, left-run, left-all}
@@ -51,7 +51,7 @@ SwitchLeft c q rest b =
 
 begin : (c : tie.After-count-lines)
     → let a = c .before .before .before .before .before .before .before .before .args in
-    SwitchLeft c (a .p) (rec 2 0 (a .arg) 0 0 ∷ (literals c ++ (lists c ++ structures c))) (a .index .now)
+    SwitchLeft c (a .p) (recOf 2 0 (a .arg) 0 0 ∷ (literals c ++ (lists c ++ structures c))) (a .index .now)
 begin c =
     let ll = c .before in
     let s = ll .before .before .before .before .before .before .before in

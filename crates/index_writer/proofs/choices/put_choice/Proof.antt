@@ -5,7 +5,7 @@ use mathlib.Core.List.{_∷_, []}
 use Prim.Native.Nat.{ℕ, _<_}
 use native.Mathlib.Omega.{arith}
 use lib.ListN.{length, getD}
-use Rattle.records.specs.Records.{rec, recordsOf}
+use Rattle.records.specs.Records.{recOf, recordsOf}
 use Rattle.records.proofs.Laws.{length-recordsOf}
 use Rattle.indexing.specs.Columns.{tagAt, choiceAt}
 use Rattle.index_writer.proofs.Left.{one-room, puts-one, puts-none}
@@ -17,7 +17,7 @@ use Rattle.index_writer.proofs.choices.put_choice.Tie as tie
 member : (t : tie.Then1)
     → let a = t .before .before .before .before .before .before .args in
     choiceAt (a .leaders .now) (a .offs .now) (a .tags .now) (a .dynamic) (a .default) (a .n) (a .i) (a .k) (a .j)
-    ≡ rec 6 (tagAt (a .dynamic) (a .default) (getD (a .tags .now) (a .j) 0) (a .n) (a .k)) 0 (getD (a .offs .now) (a .j) 0) 0 ∷ []
+    ≡ recOf 6 (tagAt (a .dynamic) (a .default) (getD (a .tags .now) (a .j) 0) (a .n) (a .k)) 0 (getD (a .offs .now) (a .j) 0) 0 ∷ []
 member t =
     let a = t .before .before .before .before .before .before .args in
     choice-yes (a .leaders .now) (a .offs .now) (a .tags .now) (a .dynamic) (a .default) (a .i) (a .n) (a .k) (a .j) (sym (t .before .in-bucket .ensures) ∙ t .if1 .taken)
@@ -54,7 +54,7 @@ returns c =
     let t = c .before .before .before .before .before .before .before in
     let a = t .before .before .before .before .before .before .args in
     let w = c .before .before .put in
-    let r = ap (λ (t : ℕ). rec 6 t 0 (getD (a .offs .now) (a .j) 0) 0) (c .before .before .before .before .before .tag .ensures) in
+    let r = ap (λ (t : ℕ). recOf 6 t 0 (getD (a .offs .now) (a .j) 0) 0) (c .before .before .before .before .before .tag .ensures) in
     puts-one (a .index .now) (w .last .0) (a .q) (member t) r (t .before .before .before .before .before .before .pre .1) (w .ensures)
 
 returns-2 : tie.Need-returns-2

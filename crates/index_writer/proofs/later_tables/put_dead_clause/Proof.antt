@@ -6,7 +6,7 @@ use mathlib.Core.List.{[], _∷_}
 use Prim.Native.Nat.{_<_}
 use native.Mathlib.Omega.{arith}
 use lib.ListN.{length, getD}
-use Rattle.records.specs.Records.{rec, recordsOf}
+use Rattle.records.specs.Records.{recOf, recordsOf}
 use Rattle.records.proofs.Laws.{length-recordsOf}
 use Rattle.indexing.specs.Columns.{openMember}
 use Rattle.index_writer.proofs.Left.{one-room, puts-one, puts-none}
@@ -17,10 +17,10 @@ use Rattle.index_writer.proofs.later_tables.put_dead_clause.Tie as tie
 -- clause j is dead, so it is to be written, and there is room for it
 dead : (t : tie.Then1)
     → let a = t .before .before .before .before .before .before .args in
-    cond (openMember (a .leaders .now) (a .opens .now) (a .offs .now) (a .i) (a .b) (a .j)) (rec 7 0 0 (getD (a .offs .now) (a .j) 0) 0 ∷ []) [] ≡ rec 7 0 0 (getD (a .offs .now) (a .j) 0) 0 ∷ []
+    cond (openMember (a .leaders .now) (a .opens .now) (a .offs .now) (a .i) (a .b) (a .j)) (recOf 7 0 0 (getD (a .offs .now) (a .j) 0) 0 ∷ []) [] ≡ recOf 7 0 0 (getD (a .offs .now) (a .j) 0) 0 ∷ []
 dead t =
     let a = t .before .before .before .before .before .before .args in
-    cond-yes _ (rec 7 0 0 (getD (a .offs .now) (a .j) 0) 0 ∷ []) []
+    cond-yes _ (recOf 7 0 0 (getD (a .offs .now) (a .j) 0) 0 ∷ []) []
     (sym (open-as (a .leaders .now) (a .opens .now) (a .i) (a .b) (a .offs .now) (a .j)) ∙ sym (t .before .open-member .ensures) ∙ t .if1 .taken)
 
 room : (t : tie.Then1) → let a = t .before .before .before .before .before .before .args in a .q < length (recordsOf (a .index .now))
@@ -55,7 +55,7 @@ returns-2 : tie.Need-returns-2
 returns-2 c =
     let a = c .before .before .before .before .before .before .args in
     puts-none (a .index .now) (a .q)
-    (cond-no _ (rec 7 0 0 (getD (a .offs .now) (a .j) 0) 0 ∷ []) []
+    (cond-no _ (recOf 7 0 0 (getD (a .offs .now) (a .j) 0) 0 ∷ []) []
     (sym (open-as (a .leaders .now) (a .opens .now) (a .i) (a .b) (a .offs .now) (a .j)) ∙ sym (c .before .open-member .ensures) ∙ c .if1 .left))
 
 pub put-dead-clause-spec : {M : Type 1} → statement M

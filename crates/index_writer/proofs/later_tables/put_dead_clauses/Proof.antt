@@ -5,7 +5,7 @@ use mathlib.Core.List.{[], _∷_}
 use Prim.Native.Nat.{_-_}
 use native.Mathlib.Omega.{arith}
 use lib.ListN.{length, getD}
-use Rattle.records.specs.Records.{rec}
+use Rattle.records.specs.Records.{recOf}
 use Rattle.indexing.specs.Columns.{openMember, deadClauses}
 use Rattle.index_writer.proofs.Gather.{Gathered, gather-start, gather-room, gather-more, gather-end}
 use Rattle.index_writer.proofs.later_tables.put_dead_clauses.Statement.{statement}
@@ -14,7 +14,7 @@ use Rattle.index_writer.proofs.later_tables.put_dead_clauses.Tie as tie
 abbrev Inv-loop : tie.InvT-loop
 Inv-loop index₀ p leaders opens offs i b n q₀ j₀ index q j =
     (n ≡ length leaders)
-    × Gathered (λ j. cond (openMember leaders opens offs i b j) (rec 7 0 0 (getD offs j 0) 0 ∷ []) []) n index₀ p j q index
+    × Gathered (λ j. cond (openMember leaders opens offs i b j) (recOf 7 0 0 (getD offs j 0) 0 ∷ []) []) n index₀ p j q index
 
 abbrev μ-loop : tie.MeasureT-loop
 μ-loop index₀ p leaders opens offs i b n q₀ j₀ index q j = n - j

@@ -4,7 +4,7 @@ use native.Mathlib.Omega.{arith}
 use mathlib.Core.Path.{refl}
 use mathlib.Core.List.{_∷_}
 use Prim.Native.Nat.{_+_}
-use Rattle.records.specs.Records.{rec}
+use Rattle.records.specs.Records.{recOf}
 use Rattle.records.proofs.Laws.{length-recordsOf}
 use Rattle.indexing.specs.Columns.{deadClauses}
 use Rattle.index_writer.proofs.Left.{Left, left-start, left-place, left-one, left-all}
@@ -14,14 +14,14 @@ use Rattle.index_writer.proofs.later_tables.put_dead_table.Tie as tie
 -- all is left to write, and then the clauses
 begin : (s : tie.Start)
     → let a = s .args in
-    let t = rec 4 0 (a .b) 0 0 ∷ deadClauses (a .leaders .now) (a .opens .now) (a .offs .now) (a .i) (a .b) in
+    let t = recOf 4 0 (a .b) 0 0 ∷ deadClauses (a .leaders .now) (a .opens .now) (a .offs .now) (a .i) (a .b) in
     Left (a .index .now) (a .p) t (a .p) t (a .index .now)
 begin s = left-start (s .args .index .now) (s .args .p) _ _ refl (s .pre .1 .1)
 
 after-record : (c : tie.After-put)
     → let a = c .before .before .before .before .before .before .args in
     let clauses = deadClauses (a .leaders .now) (a .opens .now) (a .offs .now) (a .i) (a .b) in
-    Left (a .index .now) (a .p) (rec 4 0 (a .b) 0 0 ∷ clauses) (a .p + 1) clauses (c .put .last .0)
+    Left (a .index .now) (a .p) (recOf 4 0 (a .b) 0 0 ∷ clauses) (a .p + 1) clauses (c .put .last .0)
 after-record c = left-one (c .put .last .0) _ _ (begin (c .before .before .before .before .before .before)) (c .put .kept .0) (c .put .ensures)
 
 cast-t11 : tie.Need-cast-t11

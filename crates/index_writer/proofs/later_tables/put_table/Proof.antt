@@ -5,7 +5,7 @@ use mathlib.Core.List.{_∷_, []}
 use Prim.Native.Nat.{_<_}
 use native.Mathlib.Omega.{arith}
 use lib.ListN.{length}
-use Rattle.records.specs.Records.{rec, recordsOf}
+use Rattle.records.specs.Records.{recOf, recordsOf}
 use Rattle.records.proofs.Laws.{length-recordsOf}
 use Rattle.indexing.specs.Columns.{deadClauses, tableAt}
 use Rattle.index_writer.proofs.Left.{one-room, room-as, puts-one, puts-none, puts-as}
@@ -14,13 +14,13 @@ use Rattle.index_writer.proofs.later_tables.put_table.Statement.{statem
 use Rattle.index_writer.proofs.later_tables.put_table.Tie as tie
 
 -- the table is dead
-dead : (t : tie.Then3) → let a = t .before .before .before .before .before .before .before .before .before .args in tableAt (a .leaders .now) (a .opens .now) (a .offs .now) (a .mask) (a .extensible) (a .i) (a .b) ≡ rec 4 0 (a .b) 0 0 ∷ deadClauses (a .leaders .now) (a .opens .now) (a .offs .now) (a .i) (a .b)
+dead : (t : tie.Then3) → let a = t .before .before .before .before .before .before .before .before .before .args in tableAt (a .leaders .now) (a .opens .now) (a .offs .now) (a .mask) (a .extensible) (a .i) (a .b) ≡ recOf 4 0 (a .b) 0 0 ∷ deadClauses (a .leaders .now) (a .opens .now) (a .offs .now) (a .i) (a .b)
 dead t =
     let a = t .before .before .before .before .before .before .before .before .before .args in
     table-dead (a .leaders .now) (a .opens .now) (a .i) (a .b) (a .offs .now) (a .mask) (a .extensible) (sym (t .before .before .before .before .masked .ensures) ∙ t .before .before .before .if1 .left) (sym (t .before .before .any-open .ensures) ∙ t .before .if2 .taken) (t .if3 .taken)
 
 -- it is on demand, and there is room for it
-demand : (t : tie.Else2) → let a = t .before .before .before .before .before .before .before .before .args in tableAt (a .leaders .now) (a .opens .now) (a .offs .now) (a .mask) (a .extensible) (a .i) (a .b) ≡ rec 3 0 (a .b) 0 0 ∷ []
+demand : (t : tie.Else2) → let a = t .before .before .before .before .before .before .before .before .args in tableAt (a .leaders .now) (a .opens .now) (a .offs .now) (a .mask) (a .extensible) (a .i) (a .b) ≡ recOf 3 0 (a .b) 0 0 ∷ []
 demand t =
     let a = t .before .before .before .before .before .before .before .before .args in
     table-demand (a .leaders .now) (a .opens .now) (a .i) (a .b) (a .offs .now) (a .mask) (a .extensible) (sym (t .before .before .before .masked .ensures) ∙ t .before .before .if1 .left) (sym (t .before .any-open .ensures) ∙ t .if2 .left)

@@ -5,7 +5,7 @@ use mathlib.Core.List.{[], _∷_, _++_}
 use Prim.Native.Nat.{ℕ}
 use native.Mathlib.Omega.{arith}
 use lib.ListN.{length}
-use Rattle.records.specs.Records.{rec}
+use Rattle.records.specs.Records.{recOf}
 use Rattle.records.proofs.Laws.{length-recordsOf}
 use Rattle.records.proofs.Grown.{grow-start, grow-one, grow-run, grow-end, grow-as}
 use Rattle.index_writer.proofs.LineLaws.{restOf, line-parts}
@@ -47,9 +47,9 @@ returns c =
     let v = c .before .before .put-rest in
     let rest = restOf (a .leaders .now) (a .opens .now) (a .offs .now) (a .tags .now) (a .settings) (a .arg) (a .i) in
     let e = line-parts (a .leaders .now) (a .opens .now) (a .offs .now) (a .tags .now) (a .settings) (a .arg) (a .i) [] (a .number) in
-    let m = ap (λ (x : ℕ). ([] ++ (rec 1 x 0 (a .number) 0 ∷ [])) ++ rest) (c .before .before .before .before .before .before .before .before .mode-of .ensures) ∙ e in
+    let m = ap (λ (x : ℕ). ([] ++ (recOf 1 x 0 (a .number) 0 ∷ [])) ++ rest) (c .before .before .before .before .before .before .before .before .mode-of .ensures) ∙ e in
     let g0 = grow-start (a .index .now) (a .p) (omega (arith, s)) in
-    let g1 = grow-one (w .last .0) (rec 1 (c .before .before .before .before .before .before .before .before .mode-of .result) 0 (a .number) 0) g0 (omega (arith, s, ap length e)) (w .kept .0) (w .ensures) in
+    let g1 = grow-one (w .last .0) (recOf 1 (c .before .before .before .before .before .before .before .before .mode-of .result) 0 (a .number) 0) g0 (omega (arith, s, ap length e)) (w .kept .0) (w .ensures) in
     let g2 = grow-run (v .last .0) (v .result) rest g1 (v .ensures .0) (omega (arith, s, ap length e, v .ensures .0)) (v .kept .0) (v .ensures .1) in
     (grow-as m g2 .next, grow-end (grow-as m g2))
 

@@ -5,7 +5,7 @@ use mathlib.Core.List.{[], _∷_, _++_}
 use Prim.Native.Nat.{ℕ}
 use native.Mathlib.Omega.{arith}
 use lib.ListN.{length}
-use Rattle.records.specs.Records.{rec}
+use Rattle.records.specs.Records.{recOf}
 use Rattle.records.proofs.Grown.{grow-start, grow-one, grow-run, grow-end, grow-as}
 use Rattle.index_writer.proofs.LineLaws.{restOf, seed-parts}
 use Rattle.index_writer.proofs.lines.put_seed.Statement.{statement}
@@ -48,10 +48,10 @@ returns c =
     let v = c .before .before .put-rest in
     let rest = restOf (a .zeros .now) (a .opens .now) (a .offs .now) (a .tags .now) (a .settings) (a .arg) 0 in
     let e = seed-parts (a .zeros .now) (a .opens .now) (a .offs .now) (a .tags .now) (a .settings) (a .arg) in
-    let m = ap (λ (x : ℕ). (([] ++ (rec 1 x 0 0 0 ∷ [])) ++ (rec 3 0 (a .arg) 0 0 ∷ [])) ++ rest) (mode .ensures) ∙ e in
+    let m = ap (λ (x : ℕ). (([] ++ (recOf 1 x 0 0 0 ∷ [])) ++ (recOf 3 0 (a .arg) 0 0 ∷ [])) ++ rest) (mode .ensures) ∙ e in
     let g0 = grow-start (a .index .now) 0 (omega (arith, s)) in
-    let g1 = grow-one (w .last .0) (rec 1 (mode .result) 0 0 0) g0 (omega (arith, s, ap length e)) (w .kept .0) (w .ensures) in
-    let g2 = grow-one (u .last .0) (rec 3 0 (a .arg) 0 0) g1 (omega (arith, s, ap length e)) (u .kept .0) (u .ensures) in
+    let g1 = grow-one (w .last .0) (recOf 1 (mode .result) 0 0 0) g0 (omega (arith, s, ap length e)) (w .kept .0) (w .ensures) in
+    let g2 = grow-one (u .last .0) (recOf 3 0 (a .arg) 0 0) g1 (omega (arith, s, ap length e)) (u .kept .0) (u .ensures) in
     let g3 = grow-run (v .last .0) (v .result) rest g2 (v .ensures .0) (omega (arith, s, ap length e, v .ensures .0)) (v .kept .0) (v .ensures .1) in
     (omega (arith, grow-as m g3 .next), grow-end (grow-as m g3))
 

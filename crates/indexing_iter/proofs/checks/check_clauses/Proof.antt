@@ -6,7 +6,7 @@ use lib.ListN.{length, drop}
 use borrow.Author.Needs.{needs}
 use Rattle.records.specs.Records.{recordsOf}
 use Rattle.indexing_iter.specs.Clauses.{clausesOf}
-use Rattle.indexing_iter.specs.Checks.{checkClauses, orElse}
+use Rattle.indexing_iter.specs.Checks.{checkClauses, otherwise}
 use Rattle.indexing_iter.proofs.Table.{classIn}
 use Rattle.indexing_iter.proofs.CheckLaws.{clauses-step, clauses-none, end-within}
 use Rattle.indexing_iter.proofs.checks.check_clauses.Statement.{statement}
@@ -28,7 +28,7 @@ turn : (c : tie.After-check-clause Inv-loop μ-loop)
     → let at = c .before .before .before .before in
     let a = at .before .before .before .before .before .args in
     let rs = recordsOf (a .code .now) in
-    orElse (c .check-clause .result) (checkClauses (classIn (a .table .now)) (a .arity) (clausesOf rs (drop (at .loop .i + 1) (a .starts .now))))
+    otherwise (c .check-clause .result) (checkClauses (classIn (a .table .now)) (a .arity) (clausesOf rs (drop (at .loop .i + 1) (a .starts .now))))
     ≡ checkClauses (classIn (a .table .now)) (a .arity) (clausesOf rs (a .starts .now))
 unfolding checkClauses
 turn c =

@@ -3,7 +3,7 @@ use Prim.Native.Nat.{_-_, _+_}
 use mathlib.Core.Path.{_≡_}
 use mathlib.Core.Bool.{_&&_}
 use lib.ListN.{length, drop}
-use Rattle.records.specs.Records.{recordsOf, none}
+use Rattle.records.specs.Records.{recordsOf, zeroRec}
 use Rattle.indexing.specs.Lists.{every}
 use Rattle.indexing_scan.specs.Calls.{argumentOk}
 use Rattle.indexing_scan.proofs.CallLaws.{every-step, every-done}
@@ -29,7 +29,7 @@ turn : (c : tie.After-argument-ok Inv-loop μ-loop)
 turn c =
     let at = c .before .before .before in
     let rs = recordsOf (at .before .before .before .args .call .now) in
-    let one = every-step argumentOk rs (at .loop .i) none (search needs) in
+    let one = every-step argumentOk rs (at .loop .i) zeroRec (search needs) in
     rw (one, ← c .before .get .ensures, ← c .argument-ok .ensures) at (at .loop .inv .1)
 
 capacity-requires : tie.Need-capacity-requires Inv-loop μ-loop

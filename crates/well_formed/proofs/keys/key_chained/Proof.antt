@@ -4,7 +4,7 @@ use Prim.Native.Nat.{_-_, _≤_}
 use native.Mathlib.Omega.{arith}
 use borrow.Author.Needs.{needs}
 use lib.ListN.{length, getD}
-use Rattle.records.specs.Records.{recordsOf, none}
+use Rattle.records.specs.Records.{recordsOf, zeroRec}
 use Rattle.well_formed.proofs.ChainLaws.{At, start, found, shorter, follow, followed}
 use Rattle.well_formed.proofs.keys.key_chained.Statement.{statement}
 use Rattle.well_formed.proofs.keys.key_chained.Tie as tie
@@ -16,7 +16,7 @@ use Rattle.well_formed.proofs.keys.key_at.Reads as key-at-reads
 
 abbrev Inv-loop : tie.InvT-loop
 Inv-loop index at to bucket heads links r number₀ steps₀ number steps =
-    (r ≡ getD (recordsOf index) at none) × (steps ≤ 32)
+    (r ≡ getD (recordsOf index) at zeroRec) × (steps ≤ 32)
     × At (recordsOf index) links to (length heads) at r number
 
 abbrev μ-loop : tie.MeasureT-loop
