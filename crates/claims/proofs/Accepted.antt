@@ -27,9 +27,12 @@ use Rattle.indexing_iter.specs.Checks.{otherwise, refuse, checkArity, checkChos
 use Rattle.indexing_iter.specs.Checks.{checkRecords, checkClause, checkClauses, openSomewhere, checkKeyed, checkClausesOf, checkCode, checkBuild}
 use Rattle.indexing_iter.proofs.CheckLaws.{Rising, code-arity, code-starts, code-offsets, offset-known, build-code, build-chosen}
 use Rattle.indexing_iter.proofs.KeyLaws.{or-else-first, or-else-next, known-small}
+use Rattle.indexing.proofs.Built.{built-is-expanded, keyed-by-checks}
 use Rattle.indexing.proofs.Tests.{both, le-true}
-use Rattle.indexing.specs.Build.{Program, programOf}
+use Rattle.indexing.specs.Build.{Program, programOf, openAt}
 use Rattle.indexing.specs.Lines.{Index, size}
+use Rattle.indexing.specs.Expand.{expand}
+use Rattle.indexing.specs.Seed.{seed}
 use Rattle.indexing.specs.Builder.{capacityOf, stored, checkRoom, builtBy, indexOf, buildCall}
 use Rattle.well_formed.proofs.CodeKeys.{code-keys}
 use Rattle.well_formed.specs.WellFormed.{risingOk, keyOk}
@@ -117,6 +120,11 @@ module _ (cls : ℕ → ℕ) (code starts : List ℕ) (S : Settings) (c : ℕ) (
   unfolding buildCall
   built-is = rw build-checks
 
+  -- section 3's index is what section 4 makes of the on-demand table for c in line 0 as it is before its switch is made
+  pub accepted-is-expanded : let P = programOf cls S (recordsOf code) starts in indexOf cls code starts S c ≡ expand P (seed P c (offsetsOf starts)) 0 c
+  unfolding indexOf
+  accepted-is-expanded = built-is-expanded _ c (offsetsOf starts) (keyed-by-checks cls code starts S c built-checked)
+
 -- ---- the keys of a code
 
 -- a key whose arity and bits fit a record
@@ -199,6 +207,7 @@ pub record Ready (P : Program) (kn : ℕ → Bool) (c : ℕ) (os : List ℕ) : T
   pub arity : P .arity ≤ 32
   pub low : 1 ≤ c
   pub high : c ≤ P .arity
+  pub keyed : openAt P c os ≡ []
   pub some : 1 ≤ length os
   pub rising : Rising 1 os
   pub offsets : risingOk kn 1 os ≡ true
@@ -215,6 +224,7 @@ ready cls code starts S c bytes e =
       arity = code-arity cls (S .arity) code starts p .1;
       low = build-chosen cls (S .arity) code starts c e .0;
       high = build-chosen cls (S .arity) code starts c e .1;
+      keyed = keyed-by-checks cls code starts S c e;
       some = omega (arith, code-starts cls (S .arity) code starts p .0);
       rising = code-offsets cls (S .arity) code starts p;
       offsets = rising-ok (known starts) 1 (offsetsOf starts) (code-offsets cls (S .arity) code starts p) (λ i h. offset-known starts i (omega arith));

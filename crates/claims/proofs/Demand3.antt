@@ -18,9 +18,8 @@ use Rattle.indexing_iter.specs.Checks.{otherwise, refuse}
 use Rattle.indexing_iter.proofs.CheckLaws.{build-code}
 use Rattle.indexing.proofs.Grown.{Grown, grown-same, grown-size, grown-fits}
 use Rattle.indexing.proofs.Tests.{both, le-true}
-use Rattle.indexing.specs.Build.{Program, programOf}
+use Rattle.indexing.specs.Build.{Program, programOf, build}
 use Rattle.indexing.specs.Builder.{Built, capacityOf, stored, indexOf, buildCall}
-use Rattle.indexing.specs.Expand.{build}
 use Rattle.indexing.specs.Lines.{Index, size}
 use Rattle.indexing.specs.Lists.{every}
 use Rattle.indexing.specs.Reading.{parse}
@@ -73,7 +72,7 @@ module _ (cls : ℕ → ℕ) (code starts : List ℕ) (S : Settings) (c : ℕ) (
   -- what a list of walks keeps: the index and count handed on, and the calls accepted before
   record Holds (before : List (List ℕ)) (index : List ℕ) (count : ℕ) : Type 0 where
     idx : Index
-    kept : Kept P c os (is-ready .rising) cap (map callOf before) idx
+    kept : Kept P c os (is-ready .rising) (is-ready .keyed) cap (map callOf before) idx
     holds : index ≡ stored (S .dynamic) idx buffer
     counts : count ≡ size idx
 
@@ -123,8 +122,8 @@ module _ (cls : ℕ → ℕ) (code starts : List ℕ) (S : Settings) (c : ℕ) (
           go false false = passed
 
       -- what holds of the walk by definition
-      one : Runs.Each P c os (is-ready .rising) cap (map callOf before) (h .idx) Q
-      one = each P c os (is-ready .rising) cap (h .idx) came Q (map callOf before) (λ m. h .kept .settled Q m (h .idx) grown-same)
+      one : Runs.Each P c os (is-ready .rising) (is-ready .keyed) cap (map callOf before) (h .idx) Q
+      one = each P c os (is-ready .rising) (is-ready .keyed) cap (h .idx) came Q (map callOf before) (λ m. h .kept .settled Q m (h .idx) grown-same)
 
       abbrev got : Result
       got = resultOf cls code starts S (q .call) index count
@@ -189,9 +188,9 @@ module _ (cls : ℕ → ℕ) (code starts : List ℕ) (S : Settings) (c : ℕ) (
       holds-next : Holds (q .call ∷ before) (passed .index) (passed .records)
       holds-next = record {
         idx = walk P cap Q (h .idx) .left;
-        kept = kept-next P c os (is-ready .rising) cap (h .idx) came Q (map callOf before) (h .kept);
+        kept = kept-next P c os (is-ready .rising) (is-ready .keyed) cap (h .idx) came Q (map callOf before) (h .kept);
         holds = rw (left-is, h .holds) (stored-over (S .dynamic) (h .idx) buffer (walk P cap Q (h .idx) .left)
-            (grown-size P cap (grows P c os (is-ready .rising) cap (h .idx) came Q)));
+            (grown-size P cap (grows P c os (is-ready .rising) (is-ready .keyed) cap (h .idx) came Q)));
         counts = ap size left-is;
       }
 
@@ -222,7 +221,7 @@ module _ (cls : ℕ → ℕ) (code starts : List ℕ) (S : Settings) (c : ℕ) (
   unfolding indexOf
   holds-start = record {
     idx = build P c os;
-    kept = kept-start P c os (is-ready .rising) cap;
+    kept = kept-start P c os (is-ready .rising) (is-ready .keyed) cap;
     holds = ap (λ (b : Built). b .index) (built-is cls code starts S c buffer accepts);
     counts = ap (λ (b : Built). b .count) (built-is cls code starts S c buffer accepts);
   }

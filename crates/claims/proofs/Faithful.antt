@@ -11,14 +11,15 @@ use native.Mathlib.Omega.{arith}
 use lib.ListN.{length}
 use Rattle.indexing_iter.specs.Keys.{isOpen, same}
 use Rattle.indexing_iter.specs.declared.OptArgIndexKey.{OptArgIndexKey as Key}
-use Rattle.indexing.proofs.Built.{seed-clauses, seed-demand, seed-length, seed-switch, seed-closed}
+use Rattle.indexing.proofs.Built.{seed-clauses, seed-demand, seed-length, seed-switch, seed-closed, built-is-expanded}
 use Rattle.indexing.proofs.Expand.{single-is, Made, Leads, leads-ext, leads-int, opens, length-expand, same-choices, same-table, new-table}
 use Rattle.indexing.proofs.Expand.{switch-linked, no-switch, made-clauses}
 use Rattle.indexing.proofs.Grown.{Grown, grown-same, grown-more}
 use Rattle.indexing.proofs.Linked.{Linked, linked-map}
 use Rattle.indexing.proofs.Pointers.{Closed, later-none-switch, closed-expand}
-use Rattle.indexing.specs.Build.{Program, openAt, virtual, newEntries}
-use Rattle.indexing.specs.Expand.{expanded, expand, seed, build}
+use Rattle.indexing.specs.Build.{Program, openAt, virtual, newEntries, build}
+use Rattle.indexing.specs.Expand.{expanded, expand}
+use Rattle.indexing.specs.Seed.{seed}
 use Rattle.indexing.specs.Lines.{Ptr, ext, int, Entry, Table, switch, onDemand, dead, Index, lineAt, offs, find}
 use Rattle.indexing.specs.Lists.{anyOf}
 use Rattle.indexing_scan.proofs.Choose.{Ways, ways-none, ways-some, choose-linked}
@@ -180,8 +181,8 @@ module _ (P : Program) where
   grown-faithful cap os (grown-more {idx = idx} l a c h d s g) k z f =
       grown-faithful cap os g (omega (arith, length-expand P idx l a)) (closed-expand P idx l a c h d z) (faithful-expand idx l a c h d z os k f)
 
-  pub built-faithful : (c : ℕ) (os : List ℕ) → Faithful (build P c os) os
-  unfolding build
-  built-faithful c os =
-      faithful-expand (seed P c os) 0 c c (omega (arith, seed-length P c os)) (seed-demand P c os) (seed-closed P c os) os (omega (arith, seed-length P c os))
-      (record { has = seed-clauses P c os; switches = λ b d es e. absurd (seed-switch P c os 0 b d es e) })
+  pub built-faithful : (c : ℕ) (os : List ℕ) → openAt P c os ≡ [] → Faithful (build P c os) os
+  built-faithful c os keyed =
+      rw (built-is-expanded P c os keyed)
+      (faithful-expand (seed P c os) 0 c c (omega (arith, seed-length P c os)) (seed-demand P c os) (seed-closed P c os) os (omega (arith, seed-length P c os))
+      (record { has = seed-clauses P c os; switches = λ b d es e. absurd (seed-switch P c os 0 b d es e) }))

@@ -13,13 +13,15 @@ use Rattle.records.proofs.Fitting.{fit-none, fit-cons, fit-append}
 use Rattle.indexing_iter.specs.declared.OptArgIndexKey.{OptArgIndexKey as Key}
 use Rattle.indexing_iter.specs.declared.OptArgIndexKey.the-variants.{None, Literal, Structure, List as ListKey}
 use Rattle.indexing_iter.specs.Keys.{sortOf, groupOf, same}
+use Rattle.indexing.proofs.Built.{built-is-expanded}
 use Rattle.indexing.proofs.Expand.{opens, outcome, grown, expand-is, Later, later-none, later-demand, later-dead, later-view}
 use Rattle.indexing.proofs.Grown.{Grown, grown-same, grown-more}
 use Rattle.indexing.proofs.Lists.{All, all-append, all-keep, all-set, all-in, all-distinct}
 use Rattle.indexing.proofs.Tests.{bool-absurd, true-T, and-true, le-of}
 use Rattle.indexing.specs.Build.{Program, consOpt, consLine, after, laterTables, newLine, keysAt, literals, lists, structures, bucketOf, lone}
-use Rattle.indexing.specs.Build.{linesFor, entriesFor}
-use Rattle.indexing.specs.Expand.{expanded, added, expand, seed, build}
+use Rattle.indexing.specs.Build.{openAt, linesFor, entriesFor, build}
+use Rattle.indexing.specs.Expand.{expanded, added, expand}
+use Rattle.indexing.specs.Seed.{seed}
 use Rattle.indexing.specs.Lines.{Ptr, ext, int, Entry, Table, switch, onDemand, dead, Choice, Line, Index, noLine, lineAt, offs, argOf, swap, word}
 use Rattle.indexing.specs.Lines.{entryRec, deadRec, tableRecs, tablesRecs, choiceRec, modeOf, lineRec, records}
 use Rattle.indexing.specs.Lists.{keep, anyOf, every}
@@ -112,9 +114,10 @@ module _ (P : Program) where
         (all-in NarrowLine idx l noLine f h)))
         (narrow-added a cs (opens P idx l a)))
 
-    pub narrow-built : (c : ℕ) (os : List ℕ) → All NarrowLine (build P c os)
-    unfolding build seed
-    narrow-built c os = narrow-expand (seed P c os) 0 c (omega arith) ((tt, narrow-later (P .arity - c) (suc c) os), tt)
+    pub narrow-built : (c : ℕ) (os : List ℕ) → openAt P c os ≡ [] → All NarrowLine (build P c os)
+    unfolding seed
+    narrow-built c os keyed =
+        rw (built-is-expanded P c os keyed) (narrow-expand (seed P c os) 0 c (omega arith) ((tt, narrow-later (P .arity - c) (suc c) os), tt))
 
     pub narrow-grown : (cap : ℕ) {idx idx′ : Index} → Grown P cap idx idx′ → All NarrowLine idx → All NarrowLine idx′
     narrow-grown cap grown-same f = f

@@ -11,8 +11,7 @@ use lib.ListN.{length}
 use Rattle.indexing.proofs.Built.{built-closed, built-length}
 use Rattle.indexing.proofs.Grown.{Grown, grown-same, grown-trans, grown-closed, grown-length}
 use Rattle.indexing.proofs.Pointers.{Closed}
-use Rattle.indexing.specs.Build.{Program}
-use Rattle.indexing.specs.Expand.{build}
+use Rattle.indexing.specs.Build.{Program, openAt, build}
 use Rattle.indexing.specs.Lines.{Index}
 use Rattle.indexing.specs.Lists.{keep}
 use Rattle.indexing_scan.proofs.Again.{again}
@@ -41,7 +40,7 @@ fail-empty P Q zero a idx (line (suc l)) e = let z : _≡_ {A = ℕ} 0 1 = cc in
 fail-empty P Q zero a idx (unstored os) e = let z : _≡_ {A = ℕ} 0 1 = cc in absurd (omega arith)
 fail-empty P Q (suc n) a idx p e = act-fail a p (move P idx p a (Q a)) (λ q. answerFrom P Q n (suc a) idx q) (λ q. fail-empty P Q n (suc a) idx q) e
 
-module _ (P : Program) (c : ℕ) (os : List ℕ) (rising : Rising 1 os) (cap : ℕ) where
+module _ (P : Program) (c : ℕ) (os : List ℕ) (rising : Rising 1 os) (keyed : openAt P c os ≡ []) (cap : ℕ) where
   -- what holds of a walk with the call Q of the index idx, after walks with the calls before
   pub record Each (before : List Call) (idx : Index) (Q : Call) : Type 0 where
     -- the answer is the fresh index's, at any capacity, so with unlimited space too
@@ -70,23 +69,23 @@ module _ (P : Program) (c : ℕ) (os : List ℕ) (rising : Rising 1 os) (cap : �
 
   module _ (idx : Index) (came : Grown P cap (build P c os) idx) (Q : Call) where
     shut : Closed idx
-    shut = grown-closed P cap came (built-closed P c os)
+    shut = grown-closed P cap came (built-closed P c os keyed)
 
     some-line : 0 < length idx
     some-line = omega (arith, built-length P c os, grown-length P cap came)
 
     found-is : walk P cap Q idx .found ≡ answer P Q (build P c os)
     found-is = walk-answer P cap Q (P .arity) 1 (record { storing = true; index = idx }) (omega arith) shut (has-line some-line)
-        ∙ grown-answer P cap came (built-closed P c os) Q (P .arity) 1 0 (omega arith) (built-length P c os)
+        ∙ grown-answer P cap came (built-closed P c os keyed) Q (P .arity) 1 0 (omega arith) (built-length P c os)
 
     pub each : (before : List Call) → (List·Memᴰ Q before → walk P cap Q idx .left ≡ idx) → Each before idx Q
     each before same = record {
       fresh = λ room. found-is ∙ sym (walk-answer P room Q (P .arity) 1 (record { storing = true; index = build P c os }) (omega arith)
-          (built-closed P c os) (has-line (built-length P c os)));
-      all = rw found-is (built-selects P c os Q .all);
-      order = rw found-is (built-selects P c os Q .ordered);
-      once = rw found-is (rising-sublist (built-selects P c os Q .ordered) 1 rising);
-      fails = rw found-is (λ e. sym (built-selects P c os Q .all) ∙ ap (keep (agree P Q)) (fail-empty P Q (P .arity) 1 (build P c os) (line 0) e));
+          (built-closed P c os keyed) (has-line (built-length P c os)));
+      all = rw found-is (built-selects P c os keyed Q .all);
+      order = rw found-is (built-selects P c os keyed Q .ordered);
+      once = rw found-is (rising-sublist (built-selects P c os keyed Q .ordered) 1 rising);
+      fails = rw found-is (λ e. sym (built-selects P c os keyed Q .all) ∙ ap (keep (agree P Q)) (fail-empty P Q (P .arity) 1 (build P c os) (line 0) e));
       path = rw found-is (path-rising P Q (P .arity) 1 (build P c os) (line 0));
       again = same;
     }

@@ -13,9 +13,8 @@ use Rattle.records.proofs.Fitting.{recordsOf-encode}
 use Rattle.records.proofs.Laws.{length-encode}
 use Rattle.indexing.proofs.Grown.{Grown, grown-fits}
 use Rattle.indexing.proofs.Size.{length-records, lines-size}
-use Rattle.indexing.specs.Build.{Program}
+use Rattle.indexing.specs.Build.{Program, openAt, build}
 use Rattle.indexing.specs.Builder.{capacityOf, stored}
-use Rattle.indexing.specs.Expand.{build}
 use Rattle.indexing.specs.Lines.{Index, size, modeOf, records}
 use Rattle.indexing.specs.Reading.{parse}
 use Rattle.well_formed.proofs.Sound.{ok-parse, ok-well, grown-ok, built-ok}
@@ -61,18 +60,18 @@ module _ (dynamic : Bool) (idx : Index) (b : List ℕ) where
 -- ---- an index that comes of the built one
 
 module _ (P : Program) (kn : ℕ → Bool) (c : ℕ) (os : List ℕ) (ready : Ready P kn c os) where
-  built-sound : (os : List ℕ) → 1 ≤ length os → risingOk kn 1 os ≡ true → indexOk (P .arity) (P .dynamic) kn (build P c os) ≡ true
-  built-sound [] h r = absurd (omega arith)
-  built-sound (o ∷ os) h r = built-ok P kn (ready .keys) c o os (ready .low) (ready .high) r
+  built-sound : (os : List ℕ) → 1 ≤ length os → openAt P c os ≡ [] → risingOk kn 1 os ≡ true → indexOk (P .arity) (P .dynamic) kn (build P c os) ≡ true
+  built-sound [] h keyed r = absurd (omega arith)
+  built-sound (o ∷ os) h keyed r = built-ok P kn (ready .keys) c o os (ready .low) (ready .high) keyed r
 
   module _ (cap : ℕ) (idx : Index) (came : Grown P cap (build P c os) idx) where
     pub came-sound : indexOk (P .arity) (P .dynamic) kn idx ≡ true
-    came-sound = grown-ok P kn (ready .keys) cap came (built-sound os (ready .some) (ready .offsets))
+    came-sound = grown-ok P kn (ready .keys) cap came (built-sound os (ready .some) (ready .keyed) (ready .offsets))
 
     pub came-fits : size (build P c os) ≤ cap → cap ≤ 65535 → AllFit (records (modeOf (P .dynamic)) 0 idx)
     came-fits room few =
         fit-index kn (ready .small) (P .arity) (P .dynamic) idx (ready .arity) (omega (arith, grown-fits P cap came room, lines-size idx)) came-sound
-        (narrow-grown P (ready .narrow) cap came (narrow-built P (ready .narrow) c os))
+        (narrow-grown P (ready .narrow) cap came (narrow-built P (ready .narrow) c os (ready .keyed)))
 
   module _ (b : List ℕ) (room : size (build P c os) ≤ capacityOf b) (idx : Index) (came : Grown P (capacityOf b) (build P c os) idx) where
     came-records : take (size idx) (recordsOf (stored (P .dynamic) idx b)) ≡ records (modeOf (P .dynamic)) 0 idx

@@ -18,9 +18,10 @@ use Rattle.indexing.specs.Upto.{anyTo}
 use Rattle.indexing.specs.Columns.{openMember, deadRecs, switchRecs, newLinesRecs, seedRecs}
 use Rattle.indexing.specs.Expanding.{headsAt, bitsAt, leadersAt, opensOf, zerosOf, blockRecs, moreRecs, linesMade, moreLines}
 use Rattle.indexing.specs.Lines.{onDemand, dead, Choice, Line, Index, lineAt, offs, find, tableRecs, records, modeOf, size}
-use Rattle.indexing.specs.Build.{Program, programBy, openAt, literals, lists, structures, linesFor}
-use Rattle.indexing.specs.Expand.{initial, expanded, added, expand, seed, build}
-use Rattle.indexing.proofs.Built.{seed-clauses, seed-demand, seed-length}
+use Rattle.indexing.specs.Build.{Program, programBy, initial, openAt, literals, lists, structures, linesFor, build}
+use Rattle.indexing.specs.Expand.{expanded, added, expand}
+use Rattle.indexing.specs.Seed.{seed}
+use Rattle.indexing.proofs.Built.{seed-clauses, seed-demand, seed-length, built-is-expanded}
 use Rattle.indexing.proofs.Tests.{eqb-same}
 use Rattle.indexing.proofs.Records.{before, behind, records-old, records-expand}
 use Rattle.indexing.proofs.Expand.{length-expand}
@@ -237,26 +238,29 @@ module _ (S : Settings) (K : ℕ → ℕ → Key) (all : List ℕ) (c : ℕ) (sm
   unfolding moreRecs
   its-lines = rw (its-all, one-line, none-open)
 
+  expands : build (programBy S K) c all ≡ expand (programBy S K) line0 0 c
+  expands = built-is-expanded (programBy S K) c all keyed
+
   pub built-size : length seeds + length switch0 + length lines0 - 1 ≡ size (build (programBy S K) c all)
-  unfolding build
   built-size =
+      rw expands (
       ap₂ (λ (x y : List Rec). length seeds + length x + length y - 1) (sym its-block) (sym its-lines)
       ∙ ap (λ (n : ℕ). n + length (blockRecs S K its c (length line0 - 0)) + length (moreRecs S K its tags c (length line0)) - 1) seeds-count
-      ∙ expand-size S K line0 0 c c (omega (arith, one-line)) (seed-demand (programBy S K) c all) small above below its-ranged tags its-own
+      ∙ expand-size S K line0 0 c c (omega (arith, one-line)) (seed-demand (programBy S K) c all) small above below its-ranged tags its-own)
 
   pub built-records : records (modeOf (S .dynamic)) 0 (build (programBy S K) c all) ≡ take 1 seeds ++ (switch0 ++ (slice 2 (length seeds) seeds ++ lines0))
-  unfolding build
   built-records =
+      rw expands (
       expand-records S K line0 0 c c (omega (arith, one-line)) (seed-demand (programBy S K) c all) small above below its-ranged tags its-own
-      ∙ rw (its-block, its-lines, seeds-place, ← seeds-count, ← seeds-are)
+      ∙ rw (its-block, its-lines, seeds-place, ← seeds-count, ← seeds-are))
 
   -- the same in a list of records that begins with line 0 as it is before its switch is made
   pub built-spliced : (rs : List Rec) → take (length seeds) rs ≡ seeds
       → spliced rs 1 (length seeds) switch0 lines0
       ≡ records (modeOf (S .dynamic)) 0 (build (programBy S K) c all) ++ drop (size (build (programBy S K) c all)) rs
-  unfolding build
   built-spliced rs e =
+      rw expands (
       ap₂ (λ (p n : ℕ). spliced rs p n switch0 lines0) (sym seeds-place) seeds-count
       ∙ ap₂ (λ (x y : List Rec). spliced rs (length (before (modeOf (S .dynamic)) line0 0 c)) (size line0) x y) (sym its-block) (sym its-lines)
       ∙ expand-spliced S K line0 0 c c (omega (arith, one-line)) (seed-demand (programBy S K) c all) small above below its-ranged tags its-own
-        rs (ap (λ (n : ℕ). take n rs) (sym seeds-count) ∙ e ∙ seeds-are)
+        rs (ap (λ (n : ℕ). take n rs) (sym seeds-count) ∙ e ∙ seeds-are))

@@ -22,8 +22,8 @@ use Rattle.indexing.specs.Expanding.{opensOf}
 use Rattle.indexing.specs.Lists.{add, keep}
 use Rattle.indexing.specs.Lines.{dead, Choice, Line, offs, deadRec, tableRecs, tablesRecs, choiceRec, modeOf, records}
 use Rattle.indexing.specs.Build.{Program, programBy, consLine, openAt, laterTables, tagRest, tagStatic, retag, newLine, keysAt, literals, lists}
-use Rattle.indexing.specs.Build.{structures, bucketOf, linesFor, newLines}
-use Rattle.indexing.specs.Expand.{initial, seed}
+use Rattle.indexing.specs.Build.{initial, structures, bucketOf, linesFor, newLines}
+use Rattle.indexing.specs.Seed.{seed}
 use Rattle.indexing.proofs.Built.{offs-initial}
 use Rattle.indexing_iter.proofs.SameKeys.{same-eq}
 use Rattle.indexing.proofs.Records.{records-append}

@@ -1,4 +1,4 @@
--- The one-line index, and the built index as its expansion.
+-- Line 0 before its switch is made, and the built index as its expansion.
 -- Assumes nothing.
 use mathlib.Core.Path.{_≡_, refl, _∙_, ap}
 use mathlib.Core.Bool.{Bool, true, false, cond}
@@ -7,13 +7,22 @@ use mathlib.Core.Option.{some}
 use Prim.Native.Nat.{ℕ, zero, suc, _<_, _-_}
 use native.Mathlib.Omega.{arith}
 use lib.Dec.{eqb}
-use lib.ListN.{length}
-use Rattle.indexing.proofs.Expand.{offs-retag, length-expand}
+use lib.ListN.{length, length-map}
+use Rattle.records.specs.Records.{recordsOf}
+use Rattle.indexing_iter.specs.declared.Settings.{Settings}
+use Rattle.indexing_iter.specs.declared.Checked.the-variants.{Passed}
+use Rattle.indexing_iter.specs.Keys.{isOpen}
+use Rattle.indexing_iter.specs.Clauses.{keyOf, offsetsOf}
+use Rattle.indexing_iter.specs.Checks.{checkBuild}
+use Rattle.indexing_iter.proofs.CheckLaws.{build-key, offset-known}
+use Rattle.indexing.proofs.Expand.{offs-retag}
+use Rattle.indexing.proofs.Lists.{keep-none}
 use Rattle.indexing.proofs.Pointers.{Closed, NoSwitch, later-none-switch, closed-expand}
 use Rattle.indexing.proofs.Tests.{eqb-same}
-use Rattle.indexing.specs.Build.{Program, laterTables}
-use Rattle.indexing.specs.Expand.{initial, seed, build}
+use Rattle.indexing.specs.Build.{Program, programOf, initial, openAt, laterTables, retag, build}
+use Rattle.indexing.specs.Expand.{expand}
 use Rattle.indexing.specs.Lines.{switch, onDemand, lineAt, offs, find}
+use Rattle.indexing.specs.Seed.{seed}
 
 pub offs-initial : (z : ℕ) (os : List ℕ) → offs (initial z os) ≡ os
 offs-initial z [] = refl
@@ -44,10 +53,23 @@ module _ (P : Program) (c : ℕ) (os : List ℕ) where
   pub seed-closed : Closed (seed P c os)
   seed-closed = record { within = λ l b d es k e. absurd (seed-switch l b d es e) }
 
-  pub built-closed : Closed (build P c os)
-  unfolding build
-  built-closed = closed-expand P (seed P c os) 0 c c (omega (arith, seed-length)) seed-demand seed-closed
+  -- section 3's index, where every clause has a key at c, is what section 4 makes of the on-demand table for c
+  pub built-is-expanded : openAt P c os ≡ [] → build P c os ≡ expand P (seed P c os) 0 c
+  unfolding build expand seed
+  built-is-expanded keyed =
+      let none-open : openAt P c (offs (retag P (initial 7 os))) ≡ [] = ap (openAt P c) (offs-retag P (initial 7 os) ∙ offs-initial 7 os) ∙ keyed in
+      rw (none-open, eqb-same c)
+
+  pub built-closed : openAt P c os ≡ [] → Closed (build P c os)
+  built-closed keyed = rw (built-is-expanded keyed) (closed-expand P (seed P c os) 0 c c (omega (arith, seed-length)) seed-demand seed-closed)
 
   pub built-length : 0 < length (build P c os)
   unfolding build
-  built-length = omega (arith, seed-length, length-expand P (seed P c os) 0 c)
+  built-length = omega arith
+
+-- number 8: in code that passed the builder's checks every clause has a key at c
+pub keyed-by-checks : (cls : ℕ → ℕ) (code starts : List ℕ) (S : Settings) (c : ℕ) → checkBuild cls (S .arity) c code starts ≡ Passed
+    → openAt (programOf cls S (recordsOf code) starts) c (offsetsOf starts) ≡ []
+keyed-by-checks cls code starts S c passed =
+    keep-none (λ o. isOpen (keyOf cls (recordsOf code) starts o c)) 0 (offsetsOf starts)
+    (λ i h. build-key cls (S .arity) code starts c _ passed (offset-known starts i (omega (arith, length-map starts suc))))

@@ -18,8 +18,9 @@ use Rattle.indexing_iter.specs.Checks.{risingBelow, hasBody, recordBad, checkRe
 use Rattle.indexing.proofs.Sample.{Clause, clause, offsetsOf, program, static, dynamic, atom, show, line, switch, demand, dead, entry, inner}
 use Rattle.indexing.proofs.Sample.{offset, deadClause, listing, constant, body, settings, plain, alike, fields, all}
 use Rattle.indexing.specs.Lines.{Choice, onDemand, Index, modeOf, records}
-use Rattle.indexing.specs.Build.{Program}
-use Rattle.indexing.specs.Expand.{expand, seed, build, attempt}
+use Rattle.indexing.specs.Build.{Program, build}
+use Rattle.indexing.specs.Expand.{expand, attempt}
+use Rattle.indexing.specs.Seed.{seed}
 use Rattle.indexing.specs.Builder.{Built, capacityOf, stored, indexOf, buildCall}
 
 -- ---- an example: an index, the tables (line, argument) expanded one after the other, and the records then

@@ -50,6 +50,10 @@ all-passed Φ p (x ∷ xs) f = go (p x) refl (all-passed Φ p xs (f .1))
     go true e r = ((e, f .0), r)
     go false e r = r
 
+pub keep-none : {A : Type 0} (p : A → Bool) (d : A) (xs : List A) → ((i : ℕ) → i < length xs → p (getD xs i d) ≡ false) → keep p xs ≡ []
+keep-none p d [] h = refl
+keep-none p d (x ∷ xs) h = rw (h 0 (omega arith)) (keep-none p d xs (λ i k. h (suc i) (omega arith)))
+
 pub every-keep : {A : Type 0} (q p : A → Bool) (xs : List A) → every q xs ≡ true → every q (keep p xs) ≡ true
 every-keep q p [] e = refl
 every-keep q p (x ∷ xs) e = let y = and-true (q x) (every q xs) e in go (p x) (y .0) (every-keep q p xs (y .1))

@@ -10,15 +10,16 @@ use native.Mathlib.Decide.{ℕ-discrete, decLt}
 use native.Mathlib.Omega.{arith}
 use lib.Dec.{eqb}
 use lib.ListN.{length}
-use Rattle.indexing.proofs.Built.{seed-demand, seed-length, seed-switch}
+use Rattle.indexing.proofs.Built.{seed-demand, seed-length, seed-switch, built-is-expanded}
 use Rattle.indexing.proofs.Expand.{expanded-arg, Leads, leads-ext, leads-int, opens, outcome, at-line, at-other, Later, later-none}
 use Rattle.indexing.proofs.Expand.{later-demand, later-dead, later-view}
 use Rattle.indexing.proofs.Linked.{linked-left}
 use Rattle.indexing.proofs.Pointers.{Inside, inside-ext, inside-int, Links, Closed, expand-new, longer, links-expand}
 use Rattle.indexing.proofs.Tests.{eqb-true}
-use Rattle.indexing.specs.Build.{Program, consOpt, laterTables, newLine}
-use Rattle.indexing.specs.Expand.{expand, seed, build}
+use Rattle.indexing.specs.Build.{Program, consOpt, openAt, laterTables, newLine, build}
+use Rattle.indexing.specs.Expand.{expand}
 use Rattle.indexing.specs.Lines.{Ptr, ext, int, Table, onDemand, Choice, Line, Index, lineAt, offs, argOf, find, swap}
+use Rattle.indexing.specs.Seed.{seed}
 
 -- the arguments rise from n on, and are at most m
 abbrev pub Args : ℕ → ℕ → List Table → Type 0
@@ -115,9 +116,9 @@ module _ (P : Program) (c : ℕ) (os : List ℕ) (low : 1 ≤ c) (high : c ≤ P
   seed-orderly : Orderly P (seed P c os)
   seed-orderly = record { rises = λ l k. seed-rises l; leads = record { within = λ l b d es k e. absurd (seed-switch P c os l b d es e) } }
 
-  pub built-orderly : Orderly P (build P c os)
-  unfolding build
-  built-orderly = orderly-expand P (seed P c os) 0 c c (omega (arith, seed-length P c os)) (seed-demand P c os) seed-orderly
+  pub built-orderly : openAt P c os ≡ [] → Orderly P (build P c os)
+  built-orderly keyed =
+      rw (built-is-expanded P c os keyed) (orderly-expand P (seed P c os) 0 c c (omega (arith, seed-length P c os)) (seed-demand P c os) seed-orderly)
 
 pub orderly-closed : (P : Program) (idx : Index) → Orderly P idx → Closed idx
 orderly-closed P idx o = record { within = λ l b c es h e. linked-left (go l b) (o .leads .within l b c es h e) }

@@ -1,4 +1,4 @@
--- What a switch and a new line are made of: settings, tables, tags, buckets, entries (document 01, section 3).
+-- Building: what a switch and a new line are made of (settings, tables, tags, buckets, entries), and the built index (document 01, section 3).
 -- Assumes nothing.
 use mathlib.Core.Bool.{Bool, true, false, cond}
 use mathlib.Core.List.{List, [], _∷_, _++_, map}
@@ -12,7 +12,7 @@ use Rattle.indexing_iter.specs.declared.OptArgIndexKey.{OptArgIndexKey as Key}
 use Rattle.indexing_iter.specs.declared.OptArgIndexKey.the-variants.{List as ListKey}
 use Rattle.indexing_iter.specs.Keys.{groupOf, isOpen, same}
 use Rattle.indexing.specs.Lists.{keep, distinct}
-use Rattle.indexing.specs.Lines.{Ptr, ext, int, Entry, Table, onDemand, dead, Choice, Line, offs}
+use Rattle.indexing.specs.Lines.{Ptr, ext, int, Entry, Table, switch, onDemand, dead, Choice, Line, Index, offs}
 use Rattle.indexing_iter.specs.Clauses as Clauses
 
 -- the settings (section 3) and the keys of the code (section 2): all that the layers above the key reader know of a predicate
@@ -75,6 +75,11 @@ pointer (some o) d = ext o
 abbrev pub after : Option ℕ → ℕ → ℕ
 after none d = suc d
 after (some o) d = d
+
+-- section 3: all clauses, with the tag z
+abbrev pub initial : ℕ → List ℕ → List Choice
+initial z [] = []
+initial z (o ∷ os) = record { tag = z; offset = o } ∷ initial z os
 
 module _ (P : Program) where
   -- section 3: the clauses of os without a key at argument a
@@ -173,3 +178,10 @@ module _ (P : Program) where
       let atStr = d + length (linesFor a cs (lists a (offs cs))) in
       let atLit = atStr + length (linesFor a cs (structures a (offs cs))) in
       entriesFor a cs atLit (literals a (offs cs)) ++ (entriesFor a cs d (lists a (offs cs)) ++ entriesFor a cs atStr (structures a (offs cs)))
+
+  -- section 3, the index built on argument c of the clauses os: line 0 is the switch on c, whatever the mask says of c, its new lines numbered from 1 on,
+  -- then the tables for the arguments above c, then all offsets, if dynamic with tag Z; the new lines follow
+  unfoldable pub build : ℕ → List ℕ → Index
+  build c os =
+      let cs = retag (initial 7 os) in
+      record { tables = switch c (newEntries c cs 1) ∷ laterTables (P .arity - c) (suc c) os; choices = cs } ∷ newLines c cs

@@ -12,8 +12,7 @@ use Rattle.indexing_iter.specs.declared.Checked.the-variants.{Passed, Refused}
 use Rattle.indexing_iter.specs.Clauses.{offsetsOf}
 use Rattle.indexing_iter.specs.Checks.{otherwise, refuse, checkBuild}
 use Rattle.indexing.specs.Lines.{Index, size, records, modeOf}
-use Rattle.indexing.specs.Build.{programOf}
-use Rattle.indexing.specs.Expand.{build}
+use Rattle.indexing.specs.Build.{programOf, build}
 
 -- what a call of the builder gives back: the refusal's number (0: accepted), the record count, the variable offset, and the buffer at the end
 pub record Built : Type 0 where

@@ -190,7 +190,7 @@ module _ (leaders heads opens offs tags : List ℕ) (S : Settings) (arg : ℕ) w
       let literals : ℕ = structures + linesTo leaders heads (S .dynamic) 3 (length leaders) in
       listLine number ++ (groupLines 3 structures ++ groupLines 1 literals)
 
--- line 0 before its switch on argument arg is made (specs/Expand, `seed`): all clauses are one bucket, whose leaders column is zeros
+-- line 0 before its switch on argument arg is made (specs/Seed): all clauses are one bucket, whose leaders column is zeros
 module _ (zeros opens offs tags : List ℕ) (S : Settings) (arg : ℕ) where
   unfoldable pub seedRecs : List Rec
   seedRecs =

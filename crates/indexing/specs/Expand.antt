@@ -1,17 +1,12 @@
--- Expansion of an on-demand table, and the builder as an expansion of the one-line index (document 01, sections 3 and 4).
+-- Expansion of an on-demand table (document 01, section 4), and the state of a walk (section 5).
 -- Assumes nothing.
 use mathlib.Core.Bool.{Bool, true, false, cond}
 use mathlib.Core.List.{List, [], _∷_, _++_}
-use Prim.Native.Nat.{ℕ, suc, _+_, _-_}
+use Prim.Native.Nat.{ℕ, _+_, _-_}
 use lib.Dec.{leb}
 use lib.ListN.{length, set}
-use Rattle.indexing.specs.Lines.{Table, switch, onDemand, dead, Choice, Line, Index, lineAt, offs, swap, size}
-use Rattle.indexing.specs.Build.{Program, openAt, laterTables, retag, newLines, newEntries}
-
--- section 3: all clauses, with the tag z
-abbrev pub initial : ℕ → List ℕ → List Choice
-initial z [] = []
-initial z (o ∷ os) = record { tag = z; offset = o } ∷ initial z os
+use Rattle.indexing.specs.Lines.{Table, switch, dead, Choice, Line, Index, lineAt, offs, swap, size}
+use Rattle.indexing.specs.Build.{Program, openAt, newLines, newEntries}
 
 module _ (P : Program) where
   -- section 4: what an on-demand table for a becomes, by the clauses that are open there; g is what distances grow by
@@ -31,14 +26,6 @@ module _ (P : Program) where
       let opens = openAt P a (offs (here .choices)) in
       let table = expanded a (here .choices) (length idx - l - 1) opens in
       set idx l (record { tables = swap a table (here .tables); choices = here .choices }) ++ added a (here .choices) opens
-
-  -- section 3, line 0 before its switch on c is made: the tables behind it, and all clauses, if dynamic with tag Z
-  unfoldable pub seed : ℕ → List ℕ → Index
-  seed c os = record { tables = onDemand c ∷ laterTables P (P .arity - c) (suc c) os; choices = retag P (initial 7 os) } ∷ []
-
-  -- section 3: the built index
-  unfoldable pub build : ℕ → List ℕ → Index
-  build c os = expand (seed c os) 0 c
 
 -- section 5, the state of a walk: whether expansions are stored, and the index
 pub record State : Type 0 where

@@ -20,23 +20,21 @@ use Rattle.indexing_iter.specs.declared.OptArgIndexKey.{OptArgIndexKey as Key}
 use Rattle.indexing_iter.specs.declared.Settings.{Settings}
 use Rattle.indexing_iter.specs.declared.Checked.{Checked}
 use Rattle.indexing_iter.specs.declared.Checked.the-variants.{Passed, Refused}
-use Rattle.indexing_iter.specs.Keys.{isOpen}
 use Rattle.indexing_iter.specs.Classes.{classOf}
 use Rattle.indexing_iter.specs.Clauses.{keyOf, offsetsOf}
 use Rattle.indexing_iter.specs.Checks.{numberOf, checkCode, checkBuild}
 use Rattle.indexing_iter.proofs.KeyLaws.{code-ok}
-use Rattle.indexing_iter.proofs.CheckLaws.{build-code, build-chosen, build-key}
+use Rattle.indexing_iter.proofs.CheckLaws.{build-code, build-chosen}
 use Rattle.indexing_builder.specs.declared.BuildAnswer.{BuildAnswer}
 use Rattle.indexing_builder.specs.declared.BuildAnswer.the-variants.{Done, Refused as Turned}
-use Rattle.indexing.specs.Lists.{keep}
 use Rattle.indexing.specs.Lines.{Index, records, modeOf, size}
-use Rattle.indexing.specs.Build.{openAt, programBy}
-use Rattle.indexing.specs.Expand.{initial, build}
+use Rattle.indexing.specs.Build.{openAt, programBy, initial, build}
 use Rattle.indexing.specs.Columns.{switchRecs, newLinesRecs, seedRecs}
 use Rattle.indexing.specs.Expanding.{headsAt, bitsAt, leadersAt, opensOf, zerosOf, ColumnsOf}
 use Rattle.indexing.specs.Builder.{capacityOf, stored, builtBy, indexOf, buildCall}
 use Rattle.indexing_builder.specs.Answer.{builtOf}
 use Rattle.indexing_builder.specs.Building.{answerBy, Builds, Building}
+use Rattle.indexing.proofs.Built.{keyed-by-checks}
 use Rattle.indexing.proofs.Size.{length-records}
 use Rattle.index_writer.proofs.ColumnLaws.{offsets-known}
 use Rattle.indexing.proofs.BridgeColumns.{InRange}
@@ -81,10 +79,6 @@ built-steps b b₁ b₂ n seeds switch lines e v w =
     wrote-is (ap₂ (λ (x : List Rec) (y : ℕ). spliced x 1 y switch lines) (v .records) e) (wrote-then v w)
 
 -- ---- lists
-
-keep-none : {A : Type 0} (p : A → Bool) (d : A) (xs : List A) → ((i : ℕ) → i < length xs → p (getD xs i d) ≡ false) → keep p xs ≡ []
-keep-none p d [] h = refl
-keep-none p d (x ∷ xs) h = rw (h 0 (omega arith)) (keep-none p d xs (λ i k. h (suc i) (omega arith)))
 
 -- behind what was written over the front of a list it is as it was
 drop-over : {A : Type 0} (s l : List A) (k : ℕ) → length s ≤ k → drop k (s ++ drop (length s) l) ≡ drop k l
@@ -140,7 +134,7 @@ module _ (code starts : List ℕ) (S : Settings) (c : ℕ) (passed : checkBuild 
   ranged = known-ranged code starts (S .arity) checked all (offsets-known starts) c
 
   keyed : openAt (programBy S K) c all ≡ []
-  keyed = keep-none (λ o. isOpen (K o c)) 0 all (λ i h. build-key classOf (S .arity) code starts c (getD all i 0) passed (offsets-known starts i h))
+  keyed = keyed-by-checks classOf code starts S c passed
 
   own : Tagged S (initial 7 all) zs
   own = tagged-initial S 7 all zs (λ e j h. getD-replicate (length starts) j 7 0 (omega (arith, length-map starts suc)))

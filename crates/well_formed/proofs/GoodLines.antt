@@ -11,16 +11,17 @@ use lib.ListN.{length, set}
 use Rattle.indexing_iter.specs.Keys.{groupOf, isOpen, same}
 use Rattle.indexing_iter.specs.declared.OptArgIndexKey.{OptArgIndexKey as Key}
 use Rattle.indexing_iter.specs.declared.OptArgIndexKey.the-variants.{List as ListKey}
-use Rattle.indexing.proofs.Built.{offs-initial}
+use Rattle.indexing.proofs.Built.{offs-initial, built-is-expanded}
 use Rattle.indexing.proofs.Expand.{single-is, offs-bucket, offs-retag, opens, outcome, grown, expand-is}
 use Rattle.indexing.proofs.Keys.{same-refl}
 use Rattle.indexing.proofs.Lists.{All, all-append, all-keep, all-set, all-in, all-distinct, all-passed, every-keep, any-append}
 use Rattle.indexing.proofs.Tests.{bool-absurd, and-true, both, or-true, le-true, le-of}
 use Rattle.indexing.specs.Build.{Program, consOpt, single, consLine, pointer, after, openAt, newTable, laterTables, tagRest, tagStatic, retag}
-use Rattle.indexing.specs.Build.{newLine, keysAt, literals, lists, structures, bucketOf, lone, linesFor, entriesFor}
-use Rattle.indexing.specs.Expand.{initial, expanded, added, expand, seed, build}
+use Rattle.indexing.specs.Build.{initial, newLine, keysAt, literals, lists, structures, bucketOf, lone, linesFor, entriesFor, build}
+use Rattle.indexing.specs.Expand.{expanded, added, expand}
 use Rattle.indexing.specs.Lines.{Ptr, ext, int, Entry, Table, switch, onDemand, dead, Choice, Line, Index, noLine, lineAt, offs, argOf, swap}
 use Rattle.indexing.specs.Lists.{add, keep, anyOf, every}
+use Rattle.indexing.specs.Seed.{seed}
 use Rattle.well_formed.proofs.SwitchKeys.{Once, once-keep, once-distinct, group-ok, keys-append}
 use Rattle.well_formed.specs.WellFormed.{risingOk, keyOk, keysOk, entryKeys, tagOk, someOk, choicesOk}
 
@@ -270,16 +271,16 @@ module _ (P : Program) (known : ℕ → Bool) where
         ))
         (added-good a cs (x .0) t (opens P idx l a)))
 
-    pub built-good : (c : ℕ) (o : ℕ) (os : List ℕ) → risingOk known 1 (o ∷ os) ≡ true → All GoodLine (build P c (o ∷ os))
-    unfolding build seed
-    built-good c o os e = expand-good (seed P c (o ∷ os)) 0 c (omega arith) (
+    pub built-good : (c : ℕ) (o : ℕ) (os : List ℕ) → openAt P c (o ∷ os) ≡ [] → risingOk known 1 (o ∷ os) ≡ true → All GoodLine (build P c (o ∷ os))
+    unfolding seed
+    built-good c o os keyed e = rw (built-is-expanded P c (o ∷ os) keyed) (expand-good (seed P c (o ∷ os)) 0 c (omega arith) (
       (
         (tt, later-good (P .arity - c) (suc c) (o ∷ os) e),
         retag-good (initial 7 (o ∷ os))
             (subst (λ (xs : List ℕ). risingOk known 1 xs ≡ true) (sym (offs-initial 7 (o ∷ os))) e) (λ d. tags (o ∷ os)) (some-one (P .dynamic)),
       ),
       tt,
-    )
+    ))
       where
         tags : (os : List ℕ) → every (tagOk true) (initial 7 os) ≡ true
         tags [] = refl

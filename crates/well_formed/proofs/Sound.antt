@@ -21,8 +21,8 @@ use Rattle.indexing.proofs.Lists.{All, all-in}
 use Rattle.indexing.proofs.Order.{Args, find-args, Beyond, beyond-ext, beyond-int, Orderly, orderly-expand, built-orderly}
 use Rattle.indexing.proofs.Reading.{FitKey, FitPtr, FitEntry, FitTable, FitLine, parse-back}
 use Rattle.indexing.proofs.Tests.{T-true, true-T, eqb-same, and-true, eqb-other, both, le-true, le-of}
-use Rattle.indexing.specs.Build.{Program}
-use Rattle.indexing.specs.Expand.{expand, build}
+use Rattle.indexing.specs.Build.{Program, openAt, build}
+use Rattle.indexing.specs.Expand.{expand}
 use Rattle.indexing.specs.Lines.{Ptr, ext, int, Entry, Table, switch, onDemand, dead, Line, Index, noLine, lineAt, argOf, find, modeOf, records}
 use Rattle.indexing.specs.Lists.{anyOf, every}
 use Rattle.indexing.specs.Reading.{parse}
@@ -178,6 +178,7 @@ module _ (P : Program) (known : ℕ → Bool) (keys : (o a : ℕ) → isOpen (P 
   grown-ok cap grown-same e = e
   grown-ok cap (grown-more {idx = idx} l a c h d f g) e = grown-ok cap g (ok-expand idx l a c h d e)
 
-  pub built-ok : (c o : ℕ) (os : List ℕ) → 1 ≤ c → c ≤ P .arity → risingOk known 1 (o ∷ os) ≡ true → indexOk (P .arity) (P .dynamic) known (build P c (o ∷ os)) ≡ true
-  built-ok c o os low high e = index-true P known (build P c (o ∷ os)) (built-orderly P c (o ∷ os) low high) (built-good P known keys c o os e)
-      (built-length P c (o ∷ os))
+  pub built-ok : (c o : ℕ) (os : List ℕ) → 1 ≤ c → c ≤ P .arity → openAt P c (o ∷ os) ≡ [] → risingOk known 1 (o ∷ os) ≡ true
+      → indexOk (P .arity) (P .dynamic) known (build P c (o ∷ os)) ≡ true
+  built-ok c o os low high keyed e =
+      index-true P known (build P c (o ∷ os)) (built-orderly P c (o ∷ os) low high keyed) (built-good P known keys c o os keyed e) (built-length P c (o ∷ os))
