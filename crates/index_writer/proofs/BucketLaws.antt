@@ -119,14 +119,18 @@ module _ (leaders heads bits offs : List ℕ) (dynamic : Bool) where
   switch-parts arg d structures literals e f = rw (f, e) refl
 
 -- distances of lines stay small
-pub distance-first : {n d : ℕ} → n ≤ 1024 → d ≤ 65536 → d + n < 2147483648
+pub distance-first : {n by : ℕ} → n ≤ 1024 → by ≤ 65535 → 1 + by + n < 2147483648
 distance-first h k = omega arith
 
-pub distance-next : {n d x : ℕ} → n ≤ 1024 → d ≤ 65536 → x ≤ n + 1 → d + x + n < 2147483648
+pub distance-next : {n by x : ℕ} → n ≤ 1024 → by ≤ 65535 → x ≤ n + 1 → 1 + x + by + n < 2147483648
 distance-next h k u = omega arith
 
-pub distance-small : {n d x y : ℕ} → n ≤ 1024 → d ≤ 65536 → x ≤ n + 1 → y ≤ n → d + x + y + n < 2147483648
+pub distance-small : {n by x y : ℕ} → n ≤ 1024 → by ≤ 65535 → x ≤ n + 1 → y ≤ n → 1 + x + y + by + n < 2147483648
 distance-small h k u v = omega arith
 
-pub distance-at : {n i k x : ℕ} (d : ℕ) → k ≡ d + x → x ≤ i → i < n → d + n < 2147483648 → k < 2147483648
-distance-at d e h l m = omega arith
+pub distance-at : {n i k x : ℕ} (d by : ℕ) → k ≡ d + x → x ≤ i → i < n → d + by + n < 2147483648 → k + by < 2147483648
+distance-at d by e h l m = omega arith
+
+-- the next line's distance, grown
+pub distance-grown : {k : ℕ} (d by x : ℕ) → k ≡ d + x → k + by ≡ d + by + x
+distance-grown d by x e = omega arith

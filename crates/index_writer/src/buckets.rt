@@ -2,7 +2,8 @@
 use records::Rec;
 ghost use mathlib.Core.Path.{_≡_};
 ghost use mathlib.Core.Bool.{cond};
-ghost use Prim.Native.Nat.{_+_, _*_, _≤_, _<_};
+ghost use mathlib.Core.List.{List};
+ghost use Prim.Native.Nat.{ℕ, _+_, _*_, _≤_, _<_};
 ghost use lib.ListN.{length};
 ghost use Rattle.records.specs.Records.{recordsOf};
 ghost use Rattle.records.specs.Pointer.{internalWord};
@@ -141,14 +142,23 @@ pub fn list_lines(leaders: &[u32], heads: &[u32], sizes: &[u32], dynamic: bool) 
     count_lines(leaders, heads, sizes, dynamic, 2)
 }
 
-// The word of the entry of clause i's bucket: its line at distance d, or its offset.
-fn pointer_to(leaders: &[u32], sizes: &[u32], dynamic: bool, i: usize, d: u32, offset: u32) -> u32
-    requires { ⌜ (i < length (now leaders)) × (d < 2147483648) ⌝ }
+// The pointer to the new line number d, counted from 1: a fresh one with that distance, grown by the lines that stand between.
+fn line_pointer(d: u32, by: u32) -> u32
+    requires { ⌜ d + by < 2147483648 ⌝ }
+    ensures { λ r. ⌜ r ≡ internalWord (d + by) ⌝ }
+{
+    let fresh = records::pointer::internal(d);
+    records::pointer::grown(fresh, by)
+}
+
+// The word of the entry of clause i's bucket: the pointer to its line, d among the new ones, or its offset, which does not grow.
+fn pointer_to(leaders: &[u32], sizes: &[u32], dynamic: bool, i: usize, d: u32, by: u32, offset: u32) -> u32
+    requires { ⌜ (i < length (now leaders)) × (d + by < 2147483648) ⌝ }
     requires { ⌜ now sizes ≡ sizesTo (now leaders) (length (now leaders)) ⌝ }
-    ensures { λ r. ⌜ r ≡ cond (needsLine (now (leaders .entry)) dynamic i) (internalWord d) offset ⌝ }
+    ensures { λ r. ⌜ r ≡ cond (needsLine (now (leaders .entry)) dynamic i) (internalWord (d + by)) offset ⌝ }
 {
     if needs_line(leaders, sizes, dynamic, i) {
-        return records::pointer::internal(d);
+        return line_pointer(d, by);
     }
     offset
 }
@@ -165,15 +175,16 @@ fn put_entry(
     dynamic: bool,
     g: u32,
     d: u32,
+    by: u32,
     i: usize,
 ) -> usize
-    requires { ⌜ (i < length (now leaders)) × (length (now heads) ≡ length (now leaders)) × (length (now bits) ≡ length (now leaders)) × (length (now offs) ≡ length (now leaders)) × (d < 2147483648) ⌝ }
+    requires { ⌜ (i < length (now leaders)) × (length (now heads) ≡ length (now leaders)) × (length (now bits) ≡ length (now leaders)) × (length (now offs) ≡ length (now leaders)) × (d + by < 2147483648) ⌝ }
     requires { ⌜ now sizes ≡ sizesTo (now leaders) (length (now leaders)) ⌝ }
-    requires { ⌜ q + length (entryAt (now leaders) (now heads) (now bits) (now offs) dynamic g d i) ≤ length (recordsOf (now index)) ⌝ }
-    ensures { λ r. ⌜ Puts (now (index .entry)) (now (index .exit)) q r (entryAt (now (leaders .entry)) (now (heads .entry)) (now (bits .entry)) (now (offs .entry)) dynamic g d i) ⌝ }
+    requires { ⌜ q + length (entryAt (now leaders) (now heads) (now bits) (now offs) dynamic g (d + by) i) ≤ length (recordsOf (now index)) ⌝ }
+    ensures { λ r. ⌜ Puts (now (index .entry)) (now (index .exit)) q r (entryAt (now (leaders .entry)) (now (heads .entry)) (now (bits .entry)) (now (offs .entry)) dynamic g (d + by) i) ⌝ }
 {
     if opens_bucket(leaders, heads, g, i) {
-        let word = pointer_to(leaders, sizes, dynamic, i, d, offs[i]);
+        let word = pointer_to(leaders, sizes, dynamic, i, d, by, offs[i]);
         let head = heads[i];
         let sub = (head / 65536 % 256) as u8;
         let half = (head % 65536) as u16;
@@ -193,8 +204,8 @@ fn put_entry(
     q
 }
 
-// Writes the entries of group g from place p on and returns the place after them; d is the distance of the group's first line, and k
-// that of its next.
+// Writes the entries of group g from place p on and returns the place after them; d is the group's first line, counted from 1 among the
+// new ones, and k its next.
 fn put_entries(
     index: &mut [u8],
     p: usize,
@@ -206,11 +217,12 @@ fn put_entries(
     dynamic: bool,
     g: u32,
     d: u32,
+    by: u32,
 ) -> usize
-    requires { ⌜ (length (now heads) ≡ length (now leaders)) × (length (now bits) ≡ length (now leaders)) × (length (now offs) ≡ length (now leaders)) × (d + length (now leaders) < 2147483648) ⌝ }
+    requires { ⌜ (length (now heads) ≡ length (now leaders)) × (length (now bits) ≡ length (now leaders)) × (length (now offs) ≡ length (now leaders)) × (d + by + length (now leaders) < 2147483648) ⌝ }
     requires { ⌜ now sizes ≡ sizesTo (now leaders) (length (now leaders)) ⌝ }
-    requires { ⌜ p + length (entries (now leaders) (now heads) (now bits) (now offs) dynamic g d) ≤ length (recordsOf (now index)) ⌝ }
-    ensures { λ r. ⌜ Puts (now (index .entry)) (now (index .exit)) p r (entries (now (leaders .entry)) (now (heads .entry)) (now (bits .entry)) (now (offs .entry)) dynamic g d) ⌝ }
+    requires { ⌜ p + length (entries (now leaders) (now heads) (now bits) (now offs) dynamic g (d + by)) ≤ length (recordsOf (now index)) ⌝ }
+    ensures { λ r. ⌜ Puts (now (index .entry)) (now (index .exit)) p r (entries (now (leaders .entry)) (now (heads .entry)) (now (bits .entry)) (now (offs .entry)) dynamic g (d + by)) ⌝ }
 {
     let mut q = p;
     let mut k = d;
@@ -227,6 +239,7 @@ fn put_entries(
             dynamic,
             g,
             k,
+            by,
             i,
         );
         k += line_step(leaders, heads, sizes, dynamic, g, i);
@@ -235,7 +248,7 @@ fn put_entries(
     q
 }
 
-// Writes the entries of the list group from place p on and returns the place after them; d is the distance of its line.
+// Writes the entries of the list group from place p on and returns the place after them; d is its line among the new ones.
 fn put_list_entries(
     index: &mut [u8],
     p: usize,
@@ -246,14 +259,15 @@ fn put_list_entries(
     offs: &[u32],
     dynamic: bool,
     d: u32,
+    by: u32,
 ) -> usize
-    requires { ⌜ (length (now heads) ≡ length (now leaders)) × (length (now bits) ≡ length (now leaders)) × (length (now offs) ≡ length (now leaders)) × (d + length (now leaders) < 2147483648) ⌝ }
+    requires { ⌜ (length (now heads) ≡ length (now leaders)) × (length (now bits) ≡ length (now leaders)) × (length (now offs) ≡ length (now leaders)) × (d + by + length (now leaders) < 2147483648) ⌝ }
     requires { ⌜ now sizes ≡ sizesTo (now leaders) (length (now leaders)) ⌝ }
-    requires { ⌜ p + length (listEntries (now leaders) (now heads) (now bits) (now offs) dynamic d) ≤ length (recordsOf (now index)) ⌝ }
-    ensures { λ r. ⌜ Puts (now (index .entry)) (now (index .exit)) p r (listEntries (now (leaders .entry)) (now (heads .entry)) (now (bits .entry)) (now (offs .entry)) dynamic d) ⌝ }
+    requires { ⌜ p + length (listEntries (now leaders) (now heads) (now bits) (now offs) dynamic (d + by)) ≤ length (recordsOf (now index)) ⌝ }
+    ensures { λ r. ⌜ Puts (now (index .entry)) (now (index .exit)) p r (listEntries (now (leaders .entry)) (now (heads .entry)) (now (bits .entry)) (now (offs .entry)) dynamic (d + by)) ⌝ }
 {
     if empty_list(leaders, heads, dynamic) {
-        let word = records::pointer::internal(d);
+        let word = line_pointer(d, by);
         records::put(
             index,
             p,
@@ -267,11 +281,11 @@ fn put_list_entries(
         );
         return p + 1;
     }
-    put_entries(index, p, leaders, heads, sizes, bits, offs, dynamic, 2, d)
+    put_entries(index, p, leaders, heads, sizes, bits, offs, dynamic, 2, d, by)
 }
 
-// Writes the switch on arg and its entries from place p on and returns the place after them; d is the distance of the first new line.
-// Entries stand by literals, list, structures; lines by list, structures from d3 on, literals from d1 on.
+// Writes the switch on arg and its entries from place p on and returns the place after them; distances grow by what is given.
+// Entries stand by literals, list, structures; new lines, counted from 1, by list, structures from d3 on, literals from d1 on.
 pub fn put_switch(
     index: &mut [u8],
     p: usize,
@@ -282,15 +296,15 @@ pub fn put_switch(
     offs: &[u32],
     dynamic: bool,
     arg: u16,
-    d: u32,
+    by: u32,
 ) -> usize
     requires { ⌜ (length (now heads) ≡ length (now leaders)) × (length (now bits) ≡ length (now leaders)) × (length (now offs) ≡ length (now leaders)) ⌝ }
     requires { ⌜ now sizes ≡ sizesTo (now leaders) (length (now leaders)) ⌝ }
-    requires { ⌜ (length (now leaders) ≤ 1024) × (d ≤ 65536) ⌝ }
-    requires { ⌜ p + length (switchRecs (now leaders) (now heads) (now bits) (now offs) dynamic arg d) ≤ length (recordsOf (now index)) ⌝ }
-    ensures { λ r. ⌜ Puts (now (index .entry)) (now (index .exit)) p r (switchRecs (now (leaders .entry)) (now (heads .entry)) (now (bits .entry)) (now (offs .entry)) dynamic arg d) ⌝ }
+    requires { ⌜ (length (now leaders) ≤ 1024) × (by ≤ 65535) ⌝ }
+    requires { ⌜ p + length (switchRecs (now leaders) (now heads) (now bits) (now offs) dynamic arg (1 + by)) ≤ length (recordsOf (now index)) ⌝ }
+    ensures { λ r. ⌜ Puts (now (index .entry)) (now (index .exit)) p r (switchRecs (now (leaders .entry)) (now (heads .entry)) (now (bits .entry)) (now (offs .entry)) dynamic arg (1 + by)) ⌝ }
 {
-    let d3 = d + list_lines(leaders, heads, sizes, dynamic);
+    let d3 = 1 + list_lines(leaders, heads, sizes, dynamic);
     let d1 = d3 + count_lines(leaders, heads, sizes, dynamic, 3);
     records::put(
         index,
@@ -304,9 +318,9 @@ pub fn put_switch(
         },
     );
     let q = p + 1;
-    let q = put_entries(index, q, leaders, heads, sizes, bits, offs, dynamic, 1, d1);
-    let q = put_list_entries(index, q, leaders, heads, sizes, bits, offs, dynamic, d);
-    put_entries(index, q, leaders, heads, sizes, bits, offs, dynamic, 3, d3)
+    let q = put_entries(index, q, leaders, heads, sizes, bits, offs, dynamic, 1, d1, by);
+    let q = put_list_entries(index, q, leaders, heads, sizes, bits, offs, dynamic, 1, by);
+    put_entries(index, q, leaders, heads, sizes, bits, offs, dynamic, 3, d3, by)
 }
 
 // How many entries group g has.
@@ -339,18 +353,10 @@ fn count_list_entries(leaders: &[u32], heads: &[u32], dynamic: bool) -> usize
     count_entries(leaders, heads, 2)
 }
 
-// How many records the switch and its entries take.
-pub fn switch_room(
-    leaders: &[u32],
-    heads: &[u32],
-    bits: &[u64],
-    offs: &[u32],
-    dynamic: bool,
-    arg: u16,
-    d: u32,
-) -> usize
+// How many records the switch and its entries take, whatever their distances are.
+pub fn switch_room(leaders: &[u32], heads: &[u32], dynamic: bool) -> usize
     requires { ⌜ (length (now heads) ≡ length (now leaders)) × (length (now leaders) ≤ 1024) ⌝ }
-    ensures { λ r. ⌜ r ≡ length (switchRecs (now (leaders .entry)) (now (heads .entry)) (now (bits .entry)) (now (offs .entry)) dynamic arg d) ⌝ }
+    ensures { λ r. ⌜ ((bits offs : List ℕ) (arg d : ℕ) → r ≡ length (switchRecs (now (leaders .entry)) (now (heads .entry)) bits offs dynamic arg d)) ⌝ }
     ensures { λ r. ⌜ r ≤ 2 + 3 * length (now (leaders .entry)) ⌝ }
 {
     let literals = count_entries(leaders, heads, 1);

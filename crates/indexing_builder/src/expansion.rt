@@ -46,12 +46,11 @@ fn count_new_lines(leaders: &[u32], heads: &[u32], sizes: &[u32], dynamic: bool)
     lists + structures + literals
 }
 
-// Puts the switch in place of the table t, and its lines behind all: the switch takes k records more than the table, and d is the distance
-// of its first line.
+// Puts the switch in place of the table t, and its lines behind all: the switch takes k records more than the table, and distances grow by
+// (lines before) - (own line) - 1.
 pub fn write_switch(
     index: &mut [u8],
     t: OnDemand,
-    d: u32,
     k: usize,
     leaders: &[u32],
     heads: &[u32],
@@ -64,14 +63,15 @@ pub fn write_switch(
 )
     requires { ⌜ SwitchColumns (now leaders) (now heads) (now sizes) (now bits) (now opens) (now offs) (now tags) ⌝ }
     requires { ⌜ Placed t (settings .arity) (now index) ⌝ }
-    requires { ⌜ (settings .arity ≤ 32) × (d ≤ 65536) ⌝ }
-    requires { ⌜ length (switchRecs (now leaders) (now heads) (now bits) (now offs) (settings .dynamic) (t .arg) d) ≡ k + 1 ⌝ }
+    requires { ⌜ settings .arity ≤ 32 ⌝ }
+    requires { ⌜ length (switchRecs (now leaders) (now heads) (now bits) (now offs) (settings .dynamic) (t .arg) (t .lines - t .line)) ≡ k + 1 ⌝ }
     requires { ⌜ t .count + k + length (newLinesRecs (now leaders) (now heads) (now opens) (now offs) (now tags) settings (t .arg) (t .lines)) ≤ t .capacity ⌝ }
-    ensures { λ _. ⌜ Wrote (now (index .entry)) (now (index .exit)) (spliced (recordsOf (now (index .entry))) (t .at) (t .count) (switchRecs (now (leaders .entry)) (now (heads .entry)) (now (bits .entry)) (now (offs .entry)) (settings .dynamic) (t .arg) d) (newLinesRecs (now (leaders .entry)) (now (heads .entry)) (now (opens .entry)) (now (offs .entry)) (now (tags .entry)) settings (t .arg) (t .lines))) ⌝ }
+    ensures { λ _. ⌜ Wrote (now (index .entry)) (now (index .exit)) (spliced (recordsOf (now (index .entry))) (t .at) (t .count) (switchRecs (now (leaders .entry)) (now (heads .entry)) (now (bits .entry)) (now (offs .entry)) (settings .dynamic) (t .arg) (t .lines - t .line)) (newLinesRecs (now (leaders .entry)) (now (heads .entry)) (now (opens .entry)) (now (offs .entry)) (now (tags .entry)) settings (t .arg) (t .lines))) ⌝ }
 {
     let dynamic = settings.dynamic;
+    let by = t.lines - t.line - 1;
     records::open_gap(index, t.at, t.count, k);
-    buckets::put_switch(index, t.at, leaders, heads, sizes, bits, offs, dynamic, t.arg as u16, d);
+    buckets::put_switch(index, t.at, leaders, heads, sizes, bits, offs, dynamic, t.arg as u16, by);
     lines::put_new_lines(index, t.count + k, leaders, heads, sizes, opens, offs, tags, settings, t.arg, t.lines);
 }
 
@@ -94,16 +94,6 @@ fn expand_dead(index: &mut [u8], t: OnDemand, zeros: &[u32], opens: &[u8], offs:
     }
 }
 
-// The distance of the first new line from line l, in an index of so many lines: a fresh one's, 1, grown by (lines before) - (own line) - 1.
-fn first_distance(l: u32, lines: u32) -> u32
-    requires { ⌜ (l < lines) × (lines ≤ 65535) ⌝ }
-    ensures { λ r. ⌜ r ≡ lines - l ⌝ }
-{
-    let fresh = records::pointer::internal(1);
-    let by = lines - l - 1;
-    records::pointer::distance(records::pointer::grown(fresh, by))
-}
-
 // The table t becomes the switch, where there is room for it and its lines.
 fn expand_switch(
     index: &mut [u8],
@@ -123,13 +113,12 @@ fn expand_switch(
     ensures { λ r. ⌜ Expansion r t (now (index .entry)) (now (index .exit)) (switchRecs (now (leaders .entry)) (now (heads .entry)) (now (bits .entry)) (now (offs .entry)) (settings .dynamic) (t .arg) (t .lines - t .line)) (newLinesRecs (now (leaders .entry)) (now (heads .entry)) (now (opens .entry)) (now (offs .entry)) (now (tags .entry)) settings (t .arg) (t .lines)) (linesMade (now (leaders .entry)) (now (heads .entry)) (settings .dynamic)) ⌝ }
 {
     let dynamic = settings.dynamic;
-    let d = first_distance(t.line, t.lines);
-    let k = buckets::switch_room(leaders, heads, bits, offs, dynamic, t.arg as u16, d) - 1;
+    let k = buckets::switch_room(leaders, heads, dynamic) - 1;
     let size = t.count + k + rooms::new_lines_room(leaders, heads, sizes, opens, settings, t.arg);
     if t.capacity < size {
         return Expanded::NoRoom;
     }
-    write_switch(index, t, d, k, leaders, heads, sizes, bits, opens, offs, tags, settings);
+    write_switch(index, t, k, leaders, heads, sizes, bits, opens, offs, tags, settings);
     let made = count_new_lines(leaders, heads, sizes, dynamic);
     Expanded::Stored {
         count: size,

@@ -66,7 +66,7 @@ fn write_index(
 {
     let room = capacity(index);
     let n = index_writer::rooms::seed_room(zeros, opens, settings, c);
-    let k = index_writer::buckets::switch_room(leaders, heads, bits, offs, settings.dynamic, c as u16, 1) - 1;
+    let k = index_writer::buckets::switch_room(leaders, heads, settings.dynamic) - 1;
     let size = n + k + index_writer::rooms::new_lines_room(leaders, heads, sizes, opens, settings, c);
     if room < size {
         return BuildAnswer::Refused(9);
@@ -80,7 +80,7 @@ fn write_index(
         lines: 1,
         capacity: room,
     };
-    expansion::write_switch(index, table, 1, k, leaders, heads, sizes, bits, opens, offs, tags, settings);
+    expansion::write_switch(index, table, k, leaders, heads, sizes, bits, opens, offs, tags, settings);
     let variable = variable_offset(settings.skip);
     BuildAnswer::Done { count: size, variable }
 }

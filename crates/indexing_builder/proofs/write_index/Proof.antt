@@ -44,7 +44,7 @@ rooms : (c : tie.After-new-lines-room)
     → (c .before .before .seed-room .result ≡ length (seeds (c .before .before .before .before .before .before .before .before .before .before .before .before .before .before))) × (c .before .switch-room .result ≡ length (switch (c .before .before .before .before .before .before .before .before .before .before .before .before .before .before))) × (c .new-lines-room .result ≡ length (lines (c .before .before .before .before .before .before .before .before .before .before .before .before .before .before)))
 rooms c =
     let a = c .before .before .before .before .before .before .before .before .before .before .before .before .before .before .args in
-    (c .before .before .seed-room .ensures .0 (a .offs .now) (a .tags .now), c .before .switch-room .ensures .0, c .new-lines-room .ensures .0 (a .offs .now) (a .tags .now) 1)
+    (c .before .before .seed-room .ensures .0 (a .offs .now) (a .tags .now), c .before .switch-room .ensures .0 (a .bits .now) (a .offs .now) (a .c) 1, c .new-lines-room .ensures .0 (a .offs .now) (a .tags .now) 1)
 
 capacity-requires : tie.Need-capacity-requires
 capacity-requires c κs = search needs
@@ -52,14 +52,11 @@ capacity-requires c κs = search needs
 seed-room-requires : tie.Need-seed-room-requires
 seed-room-requires c κs = search needs
 
-cast-switch-room : tie.Need-cast-switch-room
-cast-switch-room c = search needs
-
 switch-room-requires : tie.Need-switch-room-requires
 switch-room-requires c κs = search needs
 
 sub-k : tie.Need-sub-k
-sub-k c = omega (arith, c .switch-room .ensures .0, switch-one (c .before .before .before .before .before .before .before .before .before .before .before .before .before))
+sub-k c = let a = c .before .before .before .before .before .before .before .before .before .before .before .before .before .args in omega (arith, c .switch-room .ensures .0 (a .bits .now) (a .offs .now) (a .c) 1, switch-one (c .before .before .before .before .before .before .before .before .before .before .before .before .before))
 
 add-size : tie.Need-add-size
 add-size c = search needs
@@ -119,7 +116,6 @@ write-index-spec =
     (tie.spec
     capacity-requires
     seed-room-requires
-    cast-switch-room
     switch-room-requires
     sub-k
     add-size

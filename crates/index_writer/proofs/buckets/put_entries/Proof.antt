@@ -5,27 +5,27 @@ use native.Mathlib.Omega.{arith}
 use lib.ListN.{length}
 use Rattle.indexing.specs.Columns.{linesTo, entryAt, entries}
 use Rattle.index_writer.proofs.Gather.{Gathered, gather-start, gather-room, gather-more, gather-end}
-use Rattle.index_writer.proofs.BucketLaws.{lines-start, lines-step, lines-le, distance-at}
+use Rattle.index_writer.proofs.BucketLaws.{lines-start, lines-step, lines-le, distance-at, distance-grown}
 use Rattle.index_writer.proofs.buckets.put_entries.Statement.{statement}
 use Rattle.index_writer.proofs.buckets.put_entries.Tie as tie
 
 abbrev Inv-loop : tie.InvT-loop
-Inv-loop index₀ p leaders heads sizes bits offs dynamic g d q₀ k₀ i₀ index q k i =
+Inv-loop index₀ p leaders heads sizes bits offs dynamic g d by q₀ k₀ i₀ index q k i =
     (k ≡ d + linesTo leaders heads dynamic g i) × (linesTo leaders heads dynamic g i ≤ i)
-    × Gathered (λ i. entryAt leaders heads bits offs dynamic g (d + linesTo leaders heads dynamic g i) i) (length leaders) index₀ p i q index
+    × Gathered (λ i. entryAt leaders heads bits offs dynamic g (d + by + linesTo leaders heads dynamic g i) i) (length leaders) index₀ p i q index
 
 abbrev μ-loop : tie.MeasureT-loop
-μ-loop index₀ p leaders heads sizes bits offs dynamic g d q₀ k₀ i₀ index q k i = length leaders - i
+μ-loop index₀ p leaders heads sizes bits offs dynamic g d by q₀ k₀ i₀ index q k i = length leaders - i
 
--- what turn i writes, k the distance of its line
+-- what turn i writes, k its line among the new ones
 entry : (c : tie.In-loop Inv-loop μ-loop)
     → let a = c .before .before .before .before .before .before .before .before .args in
-    entryAt (a .leaders .now) (a .heads .now) (a .bits .now) (a .offs .now) (a .dynamic) (a .g) (c .before .loop .k) (c .before .loop .i)
+    entryAt (a .leaders .now) (a .heads .now) (a .bits .now) (a .offs .now) (a .dynamic) (a .g) (c .before .loop .k + a .by) (c .before .loop .i)
     ≡ entryAt (a .leaders .now) (a .heads .now) (a .bits .now) (a .offs .now) (a .dynamic) (a .g)
-    (a .d + linesTo (a .leaders .now) (a .heads .now) (a .dynamic) (a .g) (c .before .loop .i)) (c .before .loop .i)
+    (a .d + a .by + linesTo (a .leaders .now) (a .heads .now) (a .dynamic) (a .g) (c .before .loop .i)) (c .before .loop .i)
 entry c =
     let a = c .before .before .before .before .before .before .before .before .args in
-    ap (λ (x : ℕ). entryAt (a .leaders .now) (a .heads .now) (a .bits .now) (a .offs .now) (a .dynamic) (a .g) x (c .before .loop .i)) (c .before .loop .inv .0)
+    ap (λ (x : ℕ). entryAt (a .leaders .now) (a .heads .now) (a .bits .now) (a .offs .now) (a .dynamic) (a .g) x (c .before .loop .i)) (distance-grown (a .d) (a .by) _ (c .before .loop .inv .0))
 
 loop-holds : tie.Need-loop-holds Inv-loop μ-loop
 unfolding entries
@@ -43,7 +43,7 @@ put-entry-requires c κs =
     let s = c .before .before .before .before .before .before .before .before .before in
     let n = s .pre .0 in
     let t = c .before .loop-test .taken in
-    ((t, n .0, n .1, n .2, distance-at (s .args .d) (l .inv .0) (l .inv .1) t (n .3)), (s .pre .1 .0, gather-room _ (l .inv .2) t (entry (c .before))))
+    ((t, n .0, n .1, n .2, distance-at (s .args .d) (s .args .by) (l .inv .0) (l .inv .1) t (n .3)), (s .pre .1 .0, gather-room _ (l .inv .2) t (entry (c .before))))
 
 line-step-requires : tie.Need-line-step-requires Inv-loop μ-loop
 line-step-requires c κs = (omega arith, c .before .before .before .before .before .before .before .before .before .before .before .before .pre .1 .0)

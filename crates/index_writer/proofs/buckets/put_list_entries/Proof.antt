@@ -14,8 +14,8 @@ use Rattle.index_writer.proofs.buckets.put_list_entries.Statement.{stat
 use Rattle.index_writer.proofs.buckets.put_list_entries.Tie as tie
 
 -- no clause has a list: one entry is to be written, and there is room for it
-none : (t : tie.Then1) → let a = t .before .before .before .before .before .before .before .before .args in listEntries (a .leaders .now) (a .heads .now) (a .bits .now) (a .offs .now) (a .dynamic) (a .d) ≡ recOf 5 5 0 (2147483648 + a .d) 0 ∷ []
-none t = let a = t .before .before .before .before .before .before .before .before .args in list-empty (a .leaders .now) (a .heads .now) (a .bits .now) (a .offs .now) (a .dynamic) (a .d) (sym (t .before .empty-list .ensures) ∙ t .if1 .taken)
+none : (t : tie.Then1) → let a = t .before .before .before .before .before .before .before .before .args in listEntries (a .leaders .now) (a .heads .now) (a .bits .now) (a .offs .now) (a .dynamic) (a .d + a .by) ≡ recOf 5 5 0 (2147483648 + (a .d + a .by)) 0 ∷ []
+none t = let a = t .before .before .before .before .before .before .before .before .args in list-empty (a .leaders .now) (a .heads .now) (a .bits .now) (a .offs .now) (a .dynamic) (a .d + a .by) (sym (t .before .empty-list .ensures) ∙ t .if1 .taken)
 
 room : (t : tie.Then1) → let a = t .before .before .before .before .before .before .before .before .args in a .p < length (recordsOf (a .index .now))
 room t = one-room (none t) (t .before .before .before .before .before .before .before .before .pre .1 .1)
@@ -23,14 +23,14 @@ room t = one-room (none t) (t .before .before .before .before .before .before .b
 -- else they are those of the group
 some : (t : tie.Else1)
     → let a = t .before .before .before .before .before .before .before .before .args in
-    listEntries (a .leaders .now) (a .heads .now) (a .bits .now) (a .offs .now) (a .dynamic) (a .d) ≡ entries (a .leaders .now) (a .heads .now) (a .bits .now) (a .offs .now) (a .dynamic) 2 (a .d)
-some t = let a = t .before .before .before .before .before .before .before .before .args in list-full (a .leaders .now) (a .heads .now) (a .bits .now) (a .offs .now) (a .dynamic) (a .d) (sym (t .before .empty-list .ensures) ∙ t .if1 .left)
+    listEntries (a .leaders .now) (a .heads .now) (a .bits .now) (a .offs .now) (a .dynamic) (a .d + a .by) ≡ entries (a .leaders .now) (a .heads .now) (a .bits .now) (a .offs .now) (a .dynamic) 2 (a .d + a .by)
+some t = let a = t .before .before .before .before .before .before .before .before .args in list-full (a .leaders .now) (a .heads .now) (a .bits .now) (a .offs .now) (a .dynamic) (a .d + a .by) (sym (t .before .empty-list .ensures) ∙ t .if1 .left)
 
 empty-list-requires : tie.Need-empty-list-requires
 empty-list-requires c κs = search needs
 
-internal-requires : tie.Need-internal-requires
-internal-requires c κs = search needs
+line-pointer-requires : tie.Need-line-pointer-requires
+line-pointer-requires c κs = search needs
 
 put-requires : tie.Need-put-requires
 put-requires c κs = room (c .before .before)
@@ -46,7 +46,7 @@ returns c =
     let t = c .before .before .before .before .before in
     let a = t .before .before .before .before .before .before .before .before .args in
     let w = c .before .before .put in
-    puts-one (a .index .now) (w .last .0) (a .p) (none t) (ap (λ (x : ℕ). recOf 5 5 0 x 0) (c .before .before .before .before .internal .ensures)) (t .before .before .before .before .before .before .before .before .pre .1 .1) (w .ensures)
+    puts-one (a .index .now) (w .last .0) (a .p) (none t) (ap (λ (x : ℕ). recOf 5 5 0 x 0) (c .before .before .before .before .line-pointer .ensures)) (t .before .before .before .before .before .before .before .before .pre .1 .1) (w .ensures)
 
 put-entries-requires : tie.Need-put-entries-requires
 put-entries-requires c κs =
@@ -68,7 +68,7 @@ put-list-entries-spec =
     tie.close
     (tie.spec
     empty-list-requires
-    internal-requires
+    line-pointer-requires
     put-requires
     add-result
     same-length

@@ -1,5 +1,4 @@
 -- `buckets::put_switch` writes the switch and its entries, by literals, list, structures. Assumes nothing.
-use mathlib.Core.Path.{ap}
 use mathlib.Core.List.{List, _∷_, _++_}
 use Prim.Native.Nat.{ℕ, _+_}
 use native.Mathlib.Omega.{arith}
@@ -30,24 +29,24 @@ abbrev literals : tie.After-count-lines → List Rec
 literals c =
     let ll = c .before in
     let a = ll .before .before .before .before .before .before .before .args in
-    entries (a .leaders .now) (a .heads .now) (a .bits .now) (a .offs .now) (a .dynamic) 1 (a .d + ll .list-lines .result + c .count-lines .result)
+    entries (a .leaders .now) (a .heads .now) (a .bits .now) (a .offs .now) (a .dynamic) 1 (1 + ll .list-lines .result + c .count-lines .result + a .by)
 
 abbrev lists : tie.After-count-lines → List Rec
 lists c =
     let a = c .before .before .before .before .before .before .before .before .args in
-    listEntries (a .leaders .now) (a .heads .now) (a .bits .now) (a .offs .now) (a .dynamic) (a .d)
+    listEntries (a .leaders .now) (a .heads .now) (a .bits .now) (a .offs .now) (a .dynamic) (1 + a .by)
 
 abbrev structures : tie.After-count-lines → List Rec
 structures c =
     let ll = c .before in
     let a = ll .before .before .before .before .before .before .before .args in
-    entries (a .leaders .now) (a .heads .now) (a .bits .now) (a .offs .now) (a .dynamic) 3 (a .d + ll .list-lines .result)
+    entries (a .leaders .now) (a .heads .now) (a .bits .now) (a .offs .now) (a .dynamic) 3 (1 + ll .list-lines .result + a .by)
 
 -- the switch is written once rest is written into b from place q on
 abbrev SwitchLeft : tie.After-count-lines → ℕ → List Rec → List ℕ → Type 0
 SwitchLeft c q rest b =
     let a = c .before .before .before .before .before .before .before .before .args in
-    Left (a .index .now) (a .p) (switchRecs (a .leaders .now) (a .heads .now) (a .bits .now) (a .offs .now) (a .dynamic) (a .arg) (a .d)) q rest b
+    Left (a .index .now) (a .p) (switchRecs (a .leaders .now) (a .heads .now) (a .bits .now) (a .offs .now) (a .dynamic) (a .arg) (1 + a .by)) q rest b
 
 begin : (c : tie.After-count-lines)
     → let a = c .before .before .before .before .before .before .before .before .args in
@@ -57,9 +56,9 @@ begin c =
     let s = ll .before .before .before .before .before .before .before in
     let a = s .args in
     left-start (a .index .now) (a .p) _ _
-    (switch-parts (a .leaders .now) (a .heads .now) (a .bits .now) (a .offs .now) (a .dynamic) (a .arg) (a .d) _ _
-    (ap (λ (x : ℕ). a .d + x) (ll .list-lines .ensures .0))
-    (ap (λ (x : ℕ). a .d + ll .list-lines .result + x) (c .count-lines .ensures .0)))
+    (switch-parts (a .leaders .now) (a .heads .now) (a .bits .now) (a .offs .now) (a .dynamic) (a .arg) (1 + a .by) _ _
+    (omega (arith, ll .list-lines .ensures .0))
+    (omega (arith, c .count-lines .ensures .0)))
     (s .pre .1 .1 .1)
 
 after-switch : (c : tie.After-put)

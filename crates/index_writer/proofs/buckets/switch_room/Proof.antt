@@ -25,9 +25,8 @@ add-result-3 c = search needs
 
 returns : tie.Need-returns
 returns c =
-    let a = c .before .before .before .before .before .before .before .args in
-    let w = length-switch (a .leaders .now) (a .heads .now) (a .bits .now) (a .offs .now) (a .dynamic) (a .arg) (a .d) in
-    (omega arith, omega arith)
+    let a = c .before .before .before .before .before .args in
+    (λ bits offs arg d. omega (arith, length-switch (a .leaders .now) (a .heads .now) bits offs (a .dynamic) arg d), omega arith)
 
 pub switch-room-spec : {M : Type 1} → statement M
 switch-room-spec =

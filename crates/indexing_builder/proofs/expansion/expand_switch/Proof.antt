@@ -15,39 +15,36 @@ use Rattle.indexing_builder.proofs.expansion.expand_switch.Lts as lts
 use Rattle.index_writer.proofs.buckets.switch_room.Reads as switch-room-reads
 use Rattle.index_writer.proofs.rooms.new_lines_room.Reads as new-lines-room-reads
 use Rattle.indexing_builder.proofs.expansion.count_new_lines.Reads as count-new-lines-reads
-use Rattle.indexing_builder.proofs.expansion.first_distance.Reads as first-distance-reads
 use Rattle.indexing_builder.proofs.expansion.write_switch.Reads as write-switch-reads
 
--- the switch, d the distance of its first line, and the new lines
+-- the switch and the new lines
 module _ (s : tie.Start) where
-  abbrev switch : ℕ → List Rec
-  switch d = switchRecs (s .args .leaders .now) (s .args .heads .now) (s .args .bits .now) (s .args .offs .now) (s .args .settings .dynamic) (s .args .t .arg) d
+  abbrev switch : List Rec
+  switch = switchRecs (s .args .leaders .now) (s .args .heads .now) (s .args .bits .now) (s .args .offs .now) (s .args .settings .dynamic) (s .args .t .arg) (s .args .t .lines - s .args .t .line)
 
   abbrev lines : List Rec
   lines = newLinesRecs (s .args .leaders .now) (s .args .heads .now) (s .args .opens .now) (s .args .offs .now) (s .args .tags .now) (s .args .settings) (s .args .t .arg) (s .args .t .lines)
 
-  switch-one : (d : ℕ) → 1 ≤ length (switch d)
-  switch-one = switch-some (s .args .leaders .now) (s .args .heads .now) (s .args .bits .now) (s .args .offs .now) (s .args .settings .dynamic) (s .args .t .arg)
+  switch-one : 1 ≤ length switch
+  switch-one = switch-some (s .args .leaders .now) (s .args .heads .now) (s .args .bits .now) (s .args .offs .now) (s .args .settings .dynamic) (s .args .t .arg) (s .args .t .lines - s .args .t .line)
 
 -- their rooms
 rooms : (c : tie.After-new-lines-room)
-    → (c .before .before .switch-room .result ≡ length (switch (c .before .before .before .before .before .before .before .before .before .before .before .before .before) (c .before .before .before .before .first-distance .result))) × (c .new-lines-room .result ≡ length (lines (c .before .before .before .before .before .before .before .before .before .before .before .before .before)))
-      × (1 ≤ length (switch (c .before .before .before .before .before .before .before .before .before .before .before .before .before) (c .before .before .before .before .first-distance .result)))
+    → let s = c .before .before .before .before .before .before .before .before .before .before .before in
+    (c .before .before .switch-room .result ≡ length (switch s)) × (c .new-lines-room .result ≡ length (lines s)) × (1 ≤ length (switch s))
 rooms c =
-    let a = c .before .before .before .before .before .before .before .before .before .before .before .before .before .args in
-    (c .before .before .switch-room .ensures .0, c .new-lines-room .ensures .0 (a .offs .now) (a .tags .now) (a .t .lines), switch-one (c .before .before .before .before .before .before .before .before .before .before .before .before .before) _)
-
-first-distance-requires : tie.Need-first-distance-requires
-first-distance-requires c κs = search needs
-
-cast-switch-room : tie.Need-cast-switch-room
-cast-switch-room c = search needs
+    let s = c .before .before .before .before .before .before .before .before .before .before .before in
+    let a = s .args in
+    (c .before .before .switch-room .ensures .0 (a .bits .now) (a .offs .now) (a .t .arg) (a .t .lines - a .t .line), c .new-lines-room .ensures .0 (a .offs .now) (a .tags .now) (a .t .lines), switch-one s)
 
 switch-room-requires : tie.Need-switch-room-requires
 switch-room-requires c κs = search needs
 
 sub-k : tie.Need-sub-k
-sub-k c = omega (arith, c .switch-room .ensures .0, switch-one (c .before .before .before .before .before .before .before .before .before .before .before) (c .before .before .first-distance .result))
+sub-k c =
+    let s = c .before .before .before .before .before .before .before .before .before in
+    let a = s .args in
+    omega (arith, c .switch-room .ensures .0 (a .bits .now) (a .offs .now) (a .t .arg) (a .t .lines - a .t .line), switch-one s)
 
 add-size : tie.Need-add-size
 add-size c = search needs
@@ -59,30 +56,30 @@ add-size-2 : tie.Need-add-size-2
 add-size-2 c = search needs
 
 returns : tie.Need-returns
-returns c = rw (← c .before .before .before .before .before .before .first-distance .ensures) record { answer = answer-none (c .before .before .before .before .before .before .before .before .before .before .before .before .before .before .before .args .t .capacity) _ _ (omega (arith, rooms (c .before .before), c .if1)); leaves = refl }
+returns c = record { answer = answer-none (c .before .before .before .before .before .before .before .before .before .before .before .before .before .args .t .capacity) _ _ (omega (arith, rooms (c .before .before), c .if1)); leaves = refl }
 
 write-switch-requires : tie.Need-write-switch-requires
 write-switch-requires c κs =
-    let s = c .before .before .before .before .before .before .before .before .before .before .before .before .before .before .before .before in
+    let s = c .before .before .before .before .before .before .before .before .before .before .before .before .before .before in
     let r = rooms (c .before .before .before) in
-    (s .pre .0, (s .pre .1 .0, (omega (arith, s, c .before .before .before .before .before .before .before .first-distance .ensures), (omega (arith, r), omega (arith, r, c .before .if1)))))
+    (s .pre .0, (s .pre .1 .0, (s .pre .1 .1, (omega (arith, r), omega (arith, r, c .before .if1)))))
 
 count-new-lines-requires : tie.Need-count-new-lines-requires
 count-new-lines-requires c κs =
-    let s = c .before .before .before .before .before .before .before .before .before .before .before .before .before .before .before .before .before .before .before in
+    let s = c .before .before .before .before .before .before .before .before .before .before .before .before .before .before .before .before .before in
     (omega (arith, s), s .pre .0 .sizes-are)
 
-add-t23 : tie.Need-add-t23
-add-t23 c = omega (arith, c .before .before .before .before .before .before .before .before .before .before .before .before .before .before .before .before .before .before .before .before .before, c .before .count-new-lines)
+add-t21 : tie.Need-add-t21
+add-t21 c = omega (arith, c .before .before .before .before .before .before .before .before .before .before .before .before .before .before .before .before .before .before .before, c .before .count-new-lines)
 
 same-length : tie.Need-same-length
 same-length c = search needs
 
 returns-2 : tie.Need-returns-2
 returns-2 c =
-    let t = c .before .before .before .before .before .before .before .before .before .before .before .before .before .before .before .before .before .before .before .before .before .args .t in
+    let t = c .before .before .before .before .before .before .before .before .before .before .before .before .before .before .before .before .before .before .before .args .t in
     let n = c .before .count-new-lines in
-    rw (← c .before .before .before .before .before .before .before .before .before .before .before .before .first-distance .ensures) record {
+    record {
       answer =
         answer-stored (t .capacity) (t .count + (c .before .before .before .before .before .before .before .before .before .before .switch-room .result - 1) + c .before .before .before .before .before .before .before .before .new-lines-room .result) (t .lines + n .result)
         (omega (arith, rooms (c .before .before .before .before .before .before .before .before))) (ap (λ (x : ℕ). t .lines + x) (n .ensures .0)) (c .before .before .before .before .before .before .if1 .left);
@@ -93,8 +90,6 @@ pub expand-switch-spec : {M : Type 1} → statement M
 expand-switch-spec =
     tie.close
     (tie.spec
-    first-distance-requires
-    cast-switch-room
     switch-room-requires
     sub-k
     add-size
@@ -103,6 +98,6 @@ expand-switch-spec =
     returns
     write-switch-requires
     count-new-lines-requires
-    add-t23
+    add-t21
     same-length
     returns-2)
