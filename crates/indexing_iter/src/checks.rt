@@ -10,7 +10,7 @@ ghost use lib.Seq.{slice};
 ghost use Rattle.records.specs.Records.{recordsOf};
 ghost use Rattle.indexing_iter.specs.Classes.{classOf};
 ghost use Rattle.indexing_iter.specs.Clauses.{endOf, clausesOf};
-ghost use Rattle.indexing_iter.specs.Checks.{numberOf, checkArity, checkChosen, checkSize, risingBelow, checkStarts, isBody, hasBody, keyFieldsOk, recordBad, registerBad, checkClause, checkClauses, openSomewhere, checkClausesOf, checkCode, checkBuild};
+ghost use Rattle.indexing_iter.specs.Checks.{numberOf, checkArity, checkChosen, checkSize, risingBelow, checkStarts, hasBody, keyFieldsOk, recordBad, registerBad, checkClause, checkClauses, openSomewhere, checkClausesOf, checkCode, checkBuild};
 
 // The number of a check's answer: 0 where it passed.
 pub fn number_of(a: Checked) -> u32
@@ -94,17 +94,6 @@ pub fn check_starts(starts: &[u32], n: usize) -> Checked
     Checked::Refused(4)
 }
 
-fn is_body(a: InstructionArg) -> bool
-    ensures { λ r. ⌜ r ≡ isBody a ⌝ }
-{
-    match a {
-        InstructionArg::NonHead => true,
-        InstructionArg::Prologue => false,
-        InstructionArg::ArglessHead => false,
-        InstructionArg::ArgedHead(_, _) => false,
-    }
-}
-
 // Whether one of the records from start up to end is a body record, by a table of classes.
 fn has_body(table: &[u8], code: &[u8], start: usize, end: usize) -> bool
     requires { ⌜ (length (now table) ≡ 256) × (end ≤ length (recordsOf (now code))) ⌝ }
@@ -112,9 +101,10 @@ fn has_body(table: &[u8], code: &[u8], start: usize, end: usize) -> bool
 {
     let mut i = start;
     while i < end {
-        if is_body(crate::extract_index_arg(table, code, i)) {
+        let a = crate::extract_index_arg(table, code, i);
+        let (InstructionArg::ArgedHead(_, _) | InstructionArg::ArglessHead | InstructionArg::Prologue) = a else {
             return true;
-        }
+        };
         i += 1;
     }
     false
@@ -197,18 +187,14 @@ fn check_clause(table: &[u8], code: &[u8], start: usize, end: usize, arity: u32)
             return refused_from(table, code, i, end, 6);
         }
         let a = crate::arg_of_class(class, r);
-        match a {
-            InstructionArg::NonHead => {
-                return Checked::Passed;
+        let (InstructionArg::ArgedHead(_, _) | InstructionArg::ArglessHead | InstructionArg::Prologue) = a else {
+            return Checked::Passed;
+        };
+        if let InstructionArg::ArgedHead(reg, _) = a {
+            if register_bad(arity, last, reg) {
+                return refused_from(table, code, i, end, 7);
             }
-            InstructionArg::ArgedHead(reg, _) => {
-                if register_bad(arity, last, reg) {
-                    return refused_from(table, code, i, end, 7);
-                }
-                last = reg;
-            }
-            InstructionArg::ArglessHead => {}
-            InstructionArg::Prologue => {}
+            last = reg;
         }
         i += 1;
     }

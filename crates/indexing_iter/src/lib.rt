@@ -216,7 +216,7 @@ pub fn extract_index_arg(table: &[u8], code: &[u8], i: usize) -> InstructionArg
     arg_of_class(class_in(table, r.kind), r)
 }
 
-// The key at argument j that the records from start up to end give, by a table of classes.
+// The key at argument j that the records from start up to end give, by a table of classes. A body record ends the reading.
 fn key_by(table: &[u8], code: &[u8], start: usize, end: usize, j: u32) -> OptArgIndexKey
     requires { ⌜ (length (now table) ≡ 256) × (end ≤ length (recordsOf (now code))) ⌝ }
     ensures { λ k. ⌜ k ≡ keyIn (λ op. getD (now (table .entry)) op 0) (slice start end (recordsOf (now (code .entry)))) j ⌝ }
@@ -224,17 +224,13 @@ fn key_by(table: &[u8], code: &[u8], start: usize, end: usize, j: u32) -> OptArg
     let mut i = start;
     while i < end {
         let a = extract_index_arg(table, code, i);
-        match a {
-            InstructionArg::NonHead => {
-                return OptArgIndexKey::None;
+        let (InstructionArg::ArgedHead(_, _) | InstructionArg::ArglessHead | InstructionArg::Prologue) = a else {
+            return OptArgIndexKey::None;
+        };
+        if let InstructionArg::ArgedHead(reg, key) = a {
+            if reg == j {
+                return key;
             }
-            InstructionArg::ArgedHead(reg, key) => {
-                if reg == j {
-                    return key;
-                }
-            }
-            InstructionArg::ArglessHead => {}
-            InstructionArg::Prologue => {}
         }
         i += 1;
     }
@@ -274,7 +270,8 @@ fn clear_keys(heads: &mut [u32], bits: &mut [u64], n: usize)
     }
 }
 
-// All keys of the clause at a known offset of checked code, by a table of classes, in one pass over its records.
+// All keys of the clause at a known offset of checked code, by a table of classes, in one pass over its records. A body
+// record ends the reading.
 fn collect_keys(
     table: &[u8],
     code: &[u8],
@@ -297,17 +294,13 @@ fn collect_keys(
     let mut i = (offset - 1) as usize;
     while i < end {
         let a = extract_index_arg(table, code, i);
-        match a {
-            InstructionArg::NonHead => {
-                return;
-            }
-            InstructionArg::ArgedHead(reg, key) => {
-                let at = reg as usize - 1;
-                heads[at] = head_of(key);
-                bits[at] = bits_of(key);
-            }
-            InstructionArg::ArglessHead => {}
-            InstructionArg::Prologue => {}
+        let (InstructionArg::ArgedHead(_, _) | InstructionArg::ArglessHead | InstructionArg::Prologue) = a else {
+            return;
+        };
+        if let InstructionArg::ArgedHead(reg, key) = a {
+            let at = reg as usize - 1;
+            heads[at] = head_of(key);
+            bits[at] = bits_of(key);
         }
         i += 1;
     }

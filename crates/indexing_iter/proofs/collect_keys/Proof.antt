@@ -10,7 +10,7 @@ use Rattle.records.specs.Records.{recordsOf, zeroRec}
 use Rattle.indexing_iter.specs.Keys.{bitsOf}
 use Rattle.indexing_iter.specs.Rows.{headOf}
 use Rattle.indexing_iter.proofs.Table.{classIn}
-use Rattle.indexing_iter.proofs.Parts.{slice-step, slice-done}
+use Rattle.indexing_iter.proofs.Parts.{slice-step, slice-done, read-over}
 use Rattle.indexing_iter.proofs.KeyLaws.{known-within}
 use Rattle.indexing_iter.proofs.FillLaws.{collected, collected-cleared, Filling, FillingStep, filling-start, filling-step, filling-end, filling-as}
 use Rattle.indexing_iter.proofs.collect_keys.Statement.{statement}
@@ -103,7 +103,7 @@ cast-at c = search needs
 
 sub-at : tie.Need-sub-at Inv-loop μ-loop
 sub-at c =
-    let w = rw (c .before .a .given .1) at (turn (c .before .before .before)) in
+    let w = rw (c .before .a .given .1) at (turn (c .before .before .before .before)) in
     omega (arith, w .0)
 
 head-of-requires : tie.Need-head-of-requires Inv-loop μ-loop
@@ -114,8 +114,8 @@ mul-heads c = search needs
 
 slice-write-heads : tie.Need-slice-write-heads Inv-loop μ-loop
 slice-write-heads c =
-    let w = rw (c .before .before .a .given .1) at (turn (c .before .before .before .before)) in
-    omega (arith, w .0, w .1, c .before .before .before .before .before .before .loop .inv .2 .heads-room)
+    let w = rw (c .before .before .a .given .1) at (turn (c .before .before .before .before .before)) in
+    omega (arith, w .0, w .1, c .before .before .before .before .before .before .before .loop .inv .2 .heads-room)
 
 bits-of-requires : tie.Need-bits-of-requires Inv-loop μ-loop
 bits-of-requires c κs = search needs
@@ -125,14 +125,8 @@ mul-bits c = search needs
 
 slice-write-bits : tie.Need-slice-write-bits Inv-loop μ-loop
 slice-write-bits c =
-    let w = rw (c .before .before .before .a .given .1) at (turn (c .before .before .before .before .before)) in
-    omega (arith, w .0, w .1, c .before .before .before .before .before .before .before .loop .inv .2 .bits-room)
-
-enum-told-2 : tie.Need-enum-told-2 Inv-loop μ-loop
-enum-told-2 c = search needs
-
-enum-told-3 : tie.Need-enum-told-3 Inv-loop μ-loop
-enum-told-3 c = search needs
+    let w = rw (c .before .before .before .a .given .1) at (turn (c .before .before .before .before .before .before)) in
+    omega (arith, w .0, w .1, c .before .before .before .before .before .before .before .before .loop .inv .2 .bits-room)
 
 add-i : tie.Need-add-i Inv-loop μ-loop
 add-i c = search needs
@@ -142,25 +136,25 @@ loop-less c = search needs
 
 loop-again : tie.Need-loop-again Inv-loop μ-loop
 loop-again c =
-    let l = c .before .before .before .loop in
+    let x = c .before .before in
+    let l = x .before .before .loop in
     ⊎-elim
     (λ w.
     let n = w .1 .given .0 .0 - 1 in
-    let k = rw (w .1 .given .1) at (turn (c .before)) in
-    let h : c .match .heads ≡ set (l .heads) n (headOf (w .1 .given .0 .1 .0)) = w .5 ∙ ap (set (l .heads) n) (w .3 .ensures) in
-    let b : c .match .bits ≡ set (l .bits) n (bitsOf (w .1 .given .0 .1 .0)) = w .6 ∙ ap (set (l .bits) n) (w .4 .ensures) in (
+    let k = rw (w .1 .given .1) at (turn x) in
+    let h : c .match2 .heads ≡ set (l .heads) n (headOf (w .1 .given .0 .1 .0)) = w .5 ∙ ap (set (l .heads) n) (w .3 .ensures) in
+    let b : c .match2 .bits ≡ set (l .bits) n (bitsOf (w .1 .given .0 .1 .0)) = w .6 ∙ ap (set (l .bits) n) (w .4 .ensures) in (
       ap length h ∙ length-set (l .heads) n _ ∙ l .inv .0,
       ap length b ∙ length-set (l .bits) n _ ∙ l .inv .1,
-      filling-as (c .match .heads) (c .match .bits) h b (k .2),
+      filling-as (c .match2 .heads) (c .match2 .bits) h b (k .2),
     ))
-    (⊎-elim
     (λ w.
-    let k = rw (w .1 .given .1) at (turn (c .before)) in
-    (ap length (w .2) ∙ l .inv .0, ap length (w .3) ∙ l .inv .1, filling-as (c .match .heads) (c .match .bits) (w .2) (w .3) k))
-    (λ w.
-    let k = rw (w .1 .given .1) at (turn (c .before)) in
-    (ap length (w .2) ∙ l .inv .0, ap length (w .3) ∙ l .inv .1, filling-as (c .match .heads) (c .match .bits) (w .2) (w .3) k)))
-    (c .match .came)
+    let over = read-over (x .extract-index-arg .result) (c .before .match .keys1) (w .0 .keys2) in (
+      ap length (w .1) ∙ l .inv .0,
+      ap length (w .2) ∙ l .inv .1,
+      filling-as (c .match2 .heads) (c .match2 .bits) (w .1) (w .2) (⊎-elim (λ e. rw e at (turn x)) (λ e. rw e at (turn x)) over),
+    ))
+    (c .match2 .came)
 
 same-length-3 : tie.Need-same-length-3 Inv-loop μ-loop
 same-length-3 c = search needs
@@ -203,8 +197,6 @@ collect-keys-spec =
     bits-of-requires
     mul-bits
     slice-write-bits
-    enum-told-2
-    enum-told-3
     add-i
     loop-less
     loop-again

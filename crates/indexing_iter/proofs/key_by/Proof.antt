@@ -7,7 +7,7 @@ use mathlib.Core.Logic.{⊎-elim}
 use lib.Seq.{slice}
 use Rattle.records.specs.Records.{recordsOf}
 use Rattle.indexing_iter.specs.Keys.{keyIn, keyStep}
-use Rattle.indexing_iter.proofs.Parts.{slice-step, slice-done}
+use Rattle.indexing_iter.proofs.Parts.{slice-step, slice-done, read-over}
 use Rattle.indexing_iter.proofs.Table.{classIn}
 use Rattle.indexing_iter.proofs.key_by.Statement.{statement}
 use Rattle.indexing_iter.proofs.key_by.Tie as tie
@@ -49,13 +49,7 @@ enum-known-a : tie.Need-enum-known-a Inv-loop μ-loop
 enum-known-a c = search needs
 
 returns-2 : tie.Need-returns-2 Inv-loop μ-loop
-returns-2 c = rw (c .before .before .a .given .1, eq-eqb _ _ (c .if1 .taken)) at (turn (c .before .before .before .before))
-
-enum-told-2 : tie.Need-enum-told-2 Inv-loop μ-loop
-enum-told-2 c = search needs
-
-enum-told-3 : tie.Need-enum-told-3 Inv-loop μ-loop
-enum-told-3 c = search needs
+returns-2 c = rw (c .before .before .a .given .1, eq-eqb _ _ (c .if1 .taken)) at (turn (c .before .before .before .before .before))
 
 add-i : tie.Need-add-i Inv-loop μ-loop
 add-i c = search needs
@@ -65,9 +59,10 @@ loop-less c = search needs
 
 loop-again : tie.Need-loop-again Inv-loop μ-loop
 loop-again c =
-    ⊎-elim (λ w. rw (w .1 .given .1, ne-eqb _ _ (w .3 .left)) at (turn (c .before)))
-    (⊎-elim (λ w. rw (w .1 .given .1) at (turn (c .before))) (λ w. rw (w .1 .given .1) at (turn (c .before))))
-    (c .match .came)
+    let here = turn (c .before .before) in
+    ⊎-elim (λ w. rw (w .1 .given .1, ne-eqb _ _ (w .3 .left)) at here)
+    (λ w. ⊎-elim (λ e. rw e at here) (λ e. rw e at here) (read-over (c .before .before .extract-index-arg .result) (c .before .match .keys1) (w .keys2)))
+    (c .match2 .came)
 
 returns-3 : tie.Need-returns-3 Inv-loop μ-loop
 unfolding keyIn
@@ -85,8 +80,6 @@ key-by-spec =
     returns
     enum-known-a
     returns-2
-    enum-told-2
-    enum-told-3
     add-i
     loop-less
     loop-again

@@ -9,6 +9,7 @@ use Rattle.records.specs.Records.{recordsOf}
 use Rattle.indexing_iter.specs.Classes.{argOfClass}
 use Rattle.indexing_iter.specs.Checks.{hasBody, checkClause}
 use Rattle.indexing_iter.proofs.Table.{classIn}
+use Rattle.indexing_iter.proofs.Parts.{read-over}
 use Rattle.indexing_iter.proofs.CheckLaws.{clauseFrom, clauseStep, clause-whole, clause-step, clause-none}
 use Rattle.indexing_iter.proofs.checks.check_clause.Statement.{statement}
 use Rattle.indexing_iter.proofs.checks.check_clause.Tie as tie
@@ -96,13 +97,7 @@ returns-3 : tie.Need-returns-3 Inv-loop μ-loop
 returns-3 c =
     let seven = c .before in
     rw (c .refused-from2 .ensures)
-    (rw (seven .before .before .before .a .given .1, ← seven .before .register-bad .ensures, seven .if2 .taken) at (turn (seven .before .before .before .before .before)))
-
-enum-told-2 : tie.Need-enum-told-2 Inv-loop μ-loop
-enum-told-2 c = search needs
-
-enum-told-3 : tie.Need-enum-told-3 Inv-loop μ-loop
-enum-told-3 c = search needs
+    (rw (seven .before .before .before .a .given .1, ← seven .before .register-bad .ensures, seven .if2 .taken) at (turn (seven .before .before .before .before .before .before)))
 
 add-i : tie.Need-add-i Inv-loop μ-loop
 add-i c = search needs
@@ -112,9 +107,12 @@ loop-less c = search needs
 
 loop-again : tie.Need-loop-again Inv-loop μ-loop
 loop-again c =
-    ⊎-elim (λ w. rw (w .5) (rw (w .1 .given .1, ← w .3 .ensures, w .4 .left) at (turn (c .before))))
-    (⊎-elim (λ w. rw (w .2) (rw (w .1 .given .1) at (turn (c .before)))) (λ w. rw (w .2) (rw (w .1 .given .1) at (turn (c .before)))))
-    (c .match .came)
+    let here = turn (c .before .before) in
+    ⊎-elim (λ w. rw (w .5) (rw (w .1 .given .1, ← w .3 .ensures, w .4 .left) at here))
+    (λ w.
+    rw (w .1)
+    (⊎-elim (λ e. rw e at here) (λ e. rw e at here) (read-over (c .before .before .arg-of-class .result) (c .before .match .keys1) (w .0 .keys2))))
+    (c .match2 .came)
 
 returns-4 : tie.Need-returns-4 Inv-loop μ-loop
 returns-4 c = rw (clause-none _ _ _ _ _ _ (c .loop-test .left)) at (c .before .loop .inv)
@@ -138,8 +136,6 @@ check-clause-spec =
     register-bad-requires
     refused-from-requires-2
     returns-3
-    enum-told-2
-    enum-told-3
     add-i
     loop-less
     loop-again

@@ -5,14 +5,14 @@ use mathlib.Core.Bool.{_||_}
 use lib.Seq.{slice}
 use borrow.Author.Needs.{needs}
 use Rattle.records.specs.Records.{recordsOf}
-use Rattle.indexing_iter.specs.Checks.{hasBody}
+use Rattle.indexing_iter.specs.Checks.{isBody, hasBody}
 use Rattle.indexing_iter.proofs.Table.{classIn}
+use Rattle.indexing_iter.proofs.Parts.{no-body}
 use Rattle.indexing_iter.proofs.CheckLaws.{body-step, body-none}
 use Rattle.indexing_iter.proofs.checks.has_body.Statement.{statement}
 use Rattle.indexing_iter.proofs.checks.has_body.Tie as tie
 use Rattle.indexing_iter.proofs.checks.has_body.Reads as reads
 use Rattle.indexing_iter.proofs.checks.has_body.Lts as lts
-use Rattle.indexing_iter.proofs.checks.is_body.Reads as is-body-reads
 use Rattle.indexing_iter.proofs.extract_index_arg.Reads as extract-index-arg-reads
 
 abbrev Inv-loop : tie.InvT-loop
@@ -22,19 +22,18 @@ abbrev μ-loop : tie.MeasureT-loop
 μ-loop table code start end i₀ i = end - i
 
 -- in a turn: whether the record at i is a body record, and whether one after it is
-turn : (c : tie.After-is-body Inv-loop μ-loop)
-    → let at = c .before .before .before in
+turn : (c : tie.After-extract-index-arg Inv-loop μ-loop)
+    → let at = c .before .before in
     let a = at .before .before .before .args in
     let rs = recordsOf (a .code .now) in
     let cls = classIn (a .table .now) in
-    (c .is-body .result || hasBody cls (slice (at .loop .i + 1) (a .end) rs)) ≡ hasBody cls (slice (a .start) (a .end) rs)
+    (isBody (c .extract-index-arg .result) || hasBody cls (slice (at .loop .i + 1) (a .end) rs)) ≡ hasBody cls (slice (a .start) (a .end) rs)
 turn c =
-    let at = c .before .before .before in
+    let at = c .before .before in
     let a = at .before .before .before .args in
     rw (
-      body-step (classIn (a .table .now)) (recordsOf (a .code .now)) _ _ (c .before .before .loop-test .taken) (search needs),
-      ← c .before .extract-index-arg .ensures,
-      ← c .is-body .ensures,
+      body-step (classIn (a .table .now)) (recordsOf (a .code .now)) _ _ (c .before .loop-test .taken) (search needs),
+      ← c .extract-index-arg .ensures,
     ) at (at .loop .inv)
 
 loop-holds : tie.Need-loop-holds Inv-loop μ-loop
@@ -43,11 +42,11 @@ loop-holds c = search needs
 extract-index-arg-requires : tie.Need-extract-index-arg-requires Inv-loop μ-loop
 extract-index-arg-requires c κs = search needs
 
-is-body-requires : tie.Need-is-body-requires Inv-loop μ-loop
-is-body-requires c κs = search needs
+enum-told : tie.Need-enum-told Inv-loop μ-loop
+enum-told c = search needs
 
 returns : tie.Need-returns Inv-loop μ-loop
-returns c = rw (c .if1 .taken) at (turn (c .before))
+returns c = rw (c .enum-told .given .1) at (turn (c .before .before))
 
 add-i : tie.Need-add-i Inv-loop μ-loop
 add-i c = search needs
@@ -56,7 +55,7 @@ loop-less : tie.Need-loop-less Inv-loop μ-loop
 loop-less c = search needs
 
 loop-again : tie.Need-loop-again Inv-loop μ-loop
-loop-again c = rw (c .if1 .left) at (turn (c .before))
+loop-again c = rw (no-body (c .before .extract-index-arg .result) (c .match .keys1)) at (turn (c .before))
 
 returns-2 : tie.Need-returns-2 Inv-loop μ-loop
 returns-2 c = rw (body-none _ _ _ _ (c .loop-test .left)) at (c .before .loop .inv)
@@ -69,7 +68,7 @@ has-body-spec =
     μ-loop
     loop-holds
     extract-index-arg-requires
-    is-body-requires
+    enum-told
     returns
     add-i
     loop-less
