@@ -3,18 +3,15 @@
 -- Assumes nothing.
 use mathlib.Core.Bool.{Bool, false, cond}
 use mathlib.Core.List.{List}
-use Prim.Native.Nat.{ℕ, _+_, _*_, _%_}
+use Prim.Native.Nat.{ℕ}
 use lib.Dec.{eqb}
 use lib.ListN.{getD}
 use Rattle.indexing.specs.Columns.{leaderOf}
+use Rattle.indexing.specs.Chains.{bucketBy}
 
--- the bucket of a key by its two numbers
-unfoldable pub bucketOf : ℕ → ℕ → ℕ
-bucketOf head bits = (bits % 4294967291 + 40503 * head) % 1021
-
--- the bucket of clause j
+-- the bucket of clause j, one of 1,021
 unfoldable pub bucketAt : List ℕ → List ℕ → ℕ → ℕ
-bucketAt heads bits j = bucketOf (getD heads j 0) (getD bits j 0)
+bucketAt heads bits j = bucketBy 1021 (getD heads j 0) (getD bits j 0)
 
 -- bucket b holds clause i: it leads itself, and its key is of the bucket
 unfoldable pub leadsIn : List ℕ → List ℕ → ℕ → ℕ → Bool

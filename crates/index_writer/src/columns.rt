@@ -1,8 +1,10 @@
 // The columns of a line's clauses at one argument: offsets and tags, keys, open arguments, leaders and bucket sizes.
+use indexing::key_buckets;
+
 ghost use mathlib.Core.Path.{_≡_};
 ghost use mathlib.Core.Bool.{true, false, cond};
 ghost use Prim.Native.Nat.{_+_, _*_, _≤_, _<_};
-ghost use lib.ListN.{length, getD, set, replicate};
+ghost use lib.ListN.{length, getD, replicate};
 ghost use lib.Dec.{eqb, ltb};
 ghost use lib.Seq.{slice};
 ghost use Rattle.records.specs.Records.{recordsOf};
@@ -17,7 +19,7 @@ ghost use Rattle.indexing.specs.Columns.{wordsOf, sameAt, leaderOf, leadersTo, 
 ghost use Rattle.index_writer.specs.Choices.{subsOf, NumbersBelow, AllKnown, openNumbers};
 ghost use Rattle.indexing.specs.Expanding.{ColumnsOf};
 ghost use Rattle.indexing.specs.Chains.{Chained};
-ghost use Rattle.index_writer.specs.Chains.{bucketOf, bucketAt, leadsIn};
+ghost use Rattle.index_writer.specs.Chains.{bucketAt, leadsIn};
 
 // A key as two numbers: its sort and arity in one, and its bits.
 struct KeyNumbers {
@@ -30,10 +32,7 @@ fn same_at(heads: &[u32], bits: &[u64], i: usize, j: usize) -> bool
     requires { ⌜ (i < length (now heads)) × (j < length (now heads)) × (length (now bits) ≡ length (now heads)) ⌝ }
     ensures { λ r. ⌜ r ≡ sameAt (now (heads .entry)) (now (bits .entry)) i j ⌝ }
 {
-    if heads[i] != heads[j] {
-        return false;
-    }
-    bits[i] == bits[j]
+    indexing_iter::same_bits(heads[i], bits[i], heads[j], bits[j])
 }
 
 // The leader of clause j.
@@ -62,13 +61,6 @@ fn search_leaders(heads: &[u32], bits: &[u64], leaders: &mut [u32])
         leaders[j] = leader_of(heads, bits, j);
         j += 1;
     }
-}
-
-// The bucket of a key: of its numbers alone, so that equal keys have the same.
-fn bucket_of(head: u32, bits: u64) -> usize
-    ensures { λ b. ⌜ (b ≡ bucketOf head bits) × (b < 1021) ⌝ }
-{
-    ((bits % 4294967291 + 40503 * (head as u64)) % 1021) as usize
 }
 
 // The leader of clause j: the leaders before it in its bucket are looked at, one by one. Where 32 of them do not decide it, it is searched
@@ -102,17 +94,6 @@ fn chained_leader(
     j as u32
 }
 
-// A clause that leads becomes the first of its bucket. A bucket holds the number of its first clause, counted from 1 (0: none), a link
-// that of the next one in the same bucket.
-fn push(firsts: &mut [u16], links: &mut [u16], bucket: usize, j: usize)
-    requires { ⌜ (bucket < length (now firsts)) × (j < length (now links)) × (j < 1024) ⌝ }
-    ensures { λ _. ⌜ now (firsts .exit) ≡ set (now (firsts .entry)) bucket (j + 1) ⌝ }
-    ensures { λ _. ⌜ now (links .exit) ≡ set (now (links .entry)) j (getD (now (firsts .entry)) bucket 0) ⌝ }
-{
-    links[j] = firsts[bucket];
-    firsts[bucket] = (j + 1) as u16;
-}
-
 // The leader of clause j, which joins its bucket if it leads itself.
 fn next_leader(heads: &[u32], bits: &[u64], j: usize, firsts: &mut [u16], links: &mut [u16]) -> u32
     requires { ⌜ (j < length (now heads)) × (length (now bits) ≡ length (now heads)) × (length (now heads) ≤ 1024) ⌝ }
@@ -121,11 +102,11 @@ fn next_leader(heads: &[u32], bits: &[u64], j: usize, firsts: &mut [u16], links:
     ensures { λ r. ⌜ r ≡ leaderOf (now (heads .entry)) (now (bits .entry)) j ⌝ }
     ensures { λ _. ⌜ Chained (leadsIn (now (heads .entry)) (now (bits .entry))) (now (firsts .exit)) (now (links .exit)) (j + 1) ⌝ }
 {
-    let bucket = bucket_of(heads[j], bits[j]);
+    let bucket = key_buckets::bucket_of(heads[j], bits[j], 1021);
     let leader = chained_leader(heads, bits, j, bucket, firsts, links);
     let own = j as u32;
     if leader == own {
-        push(firsts, links, bucket, j);
+        key_buckets::push(firsts, links, bucket, j);
     }
     leader
 }

@@ -4,8 +4,12 @@
 use mathlib.Core.Path.{_≡_}
 use mathlib.Core.Bool.{Bool, true, cond}
 use mathlib.Core.List.{List}
-use Prim.Native.Nat.{ℕ, zero, suc, _<_}
+use Prim.Native.Nat.{ℕ, zero, suc, _+_, _*_, _%_, _<_}
 use lib.ListN.{length, getD}
+
+-- the bucket of a key by its two numbers, of size many: equal keys have the same
+unfoldable pub bucketBy : ℕ → ℕ → ℕ → ℕ
+bucketBy size head bits = (bits % 4294967291 + 40503 * head) % size
 
 -- the number of the latest item before item n that bucket b holds, 0 where it holds none
 unfoldable pub latest : (ℕ → ℕ → Bool) → ℕ → ℕ → ℕ

@@ -14,7 +14,7 @@ use Rattle.records.specs.Records.{recOf}
 use Rattle.indexing_iter.specs.declared.OptArgIndexKey.{OptArgIndexKey as Key}
 use Rattle.indexing_iter.specs.declared.Settings.{Settings}
 use Rattle.indexing_iter.specs.Keys.{isOpen, bitsOf}
-use Rattle.indexing_iter.specs.Rows.{headOf}
+use Rattle.indexing_iter.specs.Rows.{headOf, sameBits}
 use Rattle.indexing.specs.Upto.{bit, countTo, anyTo, listTo}
 use Rattle.indexing.specs.Lines.{modeOf}
 use Rattle.indexing.specs.Build.{maskedAt}
@@ -29,7 +29,7 @@ groupOfHead head = cond (ltb head 262144) 1 (cond (ltb head 327680) 3 2)
 
 -- the key of clause j has an equal one at i: sort, arity and bits are equal
 unfoldable pub sameAt : List ℕ → List ℕ → ℕ → ℕ → Bool
-sameAt heads bits i j = cond (eqb (getD heads i 0) (getD heads j 0)) (eqb (getD bits i 0) (getD bits j 0)) false
+sameAt heads bits i j = sameBits (getD heads i 0) (getD bits i 0) (getD heads j 0) (getD bits j 0)
 
 -- the first of the places from i on, k of them at most, at which the key of clause j stands; j where there is none
 unfoldable pub firstSame : List ℕ → List ℕ → ℕ → ℕ → ℕ → ℕ

@@ -1,7 +1,7 @@
 -- Tests, and the laws of equal keys (document 01, section 2).
 -- Assumes nothing.
 use mathlib.Core.Path.{_≡_, refl, sym, ap₂, _∙_}
-use Prim.Native.Nat.{ℕ, _≤_}
+use Prim.Native.Nat.{ℕ, _≤_, _<_}
 use mathlib.Core.Bool.{Bool, true, false, _&&_, _||_, false≢true}
 use native.Mathlib.Omega.{arith}
 use lib.Dec.{eqb}
@@ -9,6 +9,7 @@ use borrow.Author.Tests.{eqb-true, eqb-false, eq-eqb, ne-eqb}
 use Rattle.indexing_iter.specs.declared.OptArgIndexKey.{OptArgIndexKey}
 use Rattle.indexing_iter.specs.declared.OptArgIndexKey.the-variants.{None, Literal, Structure, List as ListKey}
 use Rattle.indexing_iter.specs.Keys.{same, sortOf, arityOf, bitsOf, groupOf}
+use Rattle.indexing_iter.specs.Rows.{headBy, sameBits}
 
 -- ---- tests
 
@@ -100,3 +101,12 @@ same-by-sort ListKey None h i = refl
 same-by-sort ListKey (Literal t c) h i = rw (ne-eqb 5 t (omega arith)) refl
 same-by-sort ListKey (Structure m g) h i = refl
 same-by-sort ListKey ListKey h i = refl
+
+-- the two numbers of a key tell its sort, its arity and its bits
+pub same-by-numbers : (s n b t m c : ℕ) → n < 65536 → m < 65536 → sameBits (headBy s n) b (headBy t m) c ≡ (eqb s t && (eqb n m && eqb b c))
+same-by-numbers s n b t m c h k = go (eqb s t) (eqb n m) refl refl
+  where
+    go : (x y : Bool) → eqb s t ≡ x → eqb n m ≡ y → sameBits (headBy s n) b (headBy t m) c ≡ (x && (y && eqb b c))
+    go true true e f = rw (eqb-true s t e, eqb-true n m f, eq-eqb (headBy t m) (headBy t m) refl) refl
+    go true false e f = rw (ne-eqb (headBy s n) (headBy t m) (λ q. eqb-false n m f (omega arith))) refl
+    go false y e f = rw (ne-eqb (headBy s n) (headBy t m) (λ q. eqb-false s t e (omega arith))) refl

@@ -1,14 +1,23 @@
--- All keys of a clause, argument by argument, each as two numbers. For contracts of inner functions. Assumes nothing.
+-- Keys as two numbers, and all keys of a clause, argument by argument. For contracts of inner functions. Assumes nothing.
 use Prim.Native.Nat.{ℕ, zero, suc, _+_, _*_}
+use mathlib.Core.Bool.{Bool, false, cond}
 use mathlib.Core.List.{List, [], _∷_}
+use lib.Dec.{eqb}
 use Rattle.records.specs.declared.Rec.{Rec}
 use Rattle.indexing_iter.specs.declared.OptArgIndexKey.{OptArgIndexKey}
 use Rattle.indexing_iter.specs.Keys.{sortOf, arityOf, keyIn}
 use Rattle.indexing_iter.specs.Clauses.{clauseAt}
 
 -- the first number of a key, its sort and arity; the second are its bits
+abbrev pub headBy : ℕ → ℕ → ℕ
+headBy sort arity = sort * 65536 + arity
+
 abbrev pub headOf : OptArgIndexKey → ℕ
-headOf k = sortOf k * 65536 + arityOf k
+headOf k = headBy (sortOf k) (arityOf k)
+
+-- two keys are equal, each by its two numbers
+abbrev pub sameBits : ℕ → ℕ → ℕ → ℕ → Bool
+sameBits head bits head2 bits2 = cond (eqb head head2) (eqb bits bits2) false
 
 -- the keys at n arguments from a on
 unfoldable pub keysIn : (ℕ → ℕ) → List Rec → ℕ → ℕ → List OptArgIndexKey

@@ -15,7 +15,7 @@ ghost use Rattle.records.specs.Records.{recordsOf, zeroRec};
 ghost use Rattle.indexing_iter.specs.Classes.{classOf, keyOfClass, argOfClass, instructionArg};
 ghost use Rattle.indexing_iter.specs.Keys.{sortOf, arityOf, bitsOf, groupOf, isOpen, same, keyIn};
 ghost use Rattle.indexing_iter.specs.Clauses.{keyOf, known};
-ghost use Rattle.indexing_iter.specs.Rows.{headOf, keysOf};
+ghost use Rattle.indexing_iter.specs.Rows.{headBy, headOf, sameBits, keysOf};
 ghost use Rattle.indexing_iter.specs.Checks.{checkCode};
 
 // What indexing knows of one argument of a clause, or of a call.
@@ -142,11 +142,17 @@ pub fn is_open(k: OptArgIndexKey) -> bool
     }
 }
 
-// A key's sort and arity in one number.
-pub fn head_of(k: OptArgIndexKey) -> u32
-    ensures { λ r. ⌜ r ≡ headOf k ⌝ }
+// A key's first number: its sort and arity in one. Its second are its bits.
+pub fn head_by(sort: u16, arity: u16) -> u32
+    ensures { λ r. ⌜ (r ≡ headBy sort arity) × (arity < 65536) ⌝ }
 {
-    wide(sort_of(k)) * 65536 + wide(arity_of(k))
+    wide(sort) * 65536 + wide(arity)
+}
+
+pub fn head_of(k: OptArgIndexKey) -> u32
+    ensures { λ r. ⌜ (r ≡ headOf k) × (arityOf k < 65536) ⌝ }
+{
+    head_by(sort_of(k), arity_of(k))
 }
 
 fn wide(x: u16) -> u32
@@ -155,20 +161,24 @@ fn wide(x: u16) -> u32
     x as u32
 }
 
-// Whether two keys are equal: sort, arity and bits are.
+// Whether two keys, each by its two numbers, are equal. Wherever keys are compared it is by this function.
+pub fn same_bits(head: u32, bits: u64, head2: u32, bits2: u64) -> bool
+    ensures { λ r. ⌜ r ≡ sameBits head bits head2 bits2 ⌝ }
+{
+    if head != head2 {
+        return false;
+    }
+    bits == bits2
+}
+
+// Whether two keys are equal: sort, arity and bits are. The group tells a literal of any sort from the other keys.
 pub fn same_key(a: OptArgIndexKey, b: OptArgIndexKey) -> bool
     ensures { λ r. ⌜ r ≡ same a b ⌝ }
 {
     if group_of(a) != group_of(b) {
         return false;
     }
-    if sort_of(a) != sort_of(b) {
-        return false;
-    }
-    if arity_of(a) != arity_of(b) {
-        return false;
-    }
-    bits_of(a) == bits_of(b)
+    same_bits(head_of(a), bits_of(a), head_of(b), bits_of(b))
 }
 
 // The key of a keyed record, by its class.

@@ -26,9 +26,9 @@ use Rattle.well_formed.proofs.PassCode.{slice-back}
 same-bucket : (size : ℕ) (r q : Rec) → sameFields r q ≡ true → bucketOf size r ≡ bucketOf size q
 unfolding sameFields bucketOf
 same-bucket size r q e =
-    let x = and-true (eqb (r .long) (q .long)) (eqb (r .sub) (q .sub) && eqb (r .half) (q .half)) e in
-    let y = and-true (eqb (r .sub) (q .sub)) (eqb (r .half) (q .half)) (x .1) in
-    rw (eqb-true (r .long) (q .long) (x .0), eqb-true (r .sub) (q .sub) (y .0), eqb-true (r .half) (q .half) (y .1))
+    let x = and-true (eqb (r .sub) (q .sub)) (eqb (r .half) (q .half) && eqb (r .long) (q .long)) e in
+    let y = and-true (eqb (r .half) (q .half)) (eqb (r .long) (q .long)) (x .1) in
+    rw (eqb-true (r .sub) (q .sub) (x .0), eqb-true (r .half) (q .half) (y .0), eqb-true (r .long) (q .long) (y .1))
 
 -- so entries of other buckets have other keys
 other-bucket : (size : ℕ) (r q : Rec) → eqb (bucketOf size q) (bucketOf size r) ≡ false → sameFields r q ≡ false

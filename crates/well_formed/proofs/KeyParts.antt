@@ -40,18 +40,11 @@ distinct-none rs i end h = rw (slice-done rs i end h) refl
 
 -- ---- keys that are told by their fields
 
-mixed : (g s n b : Bool) → (s ≡ true → g ≡ true) → g && (s && (n && b)) ≡ b && (s && n)
-mixed g true n b h = rw (h refl) (turned n b)
-  where
-    turned : (n b : Bool) → n && b ≡ b && n
-    turned true true = refl
-    turned true false = refl
-    turned false true = refl
-    turned false false = refl
-mixed true false n true h = refl
-mixed true false n false h = refl
-mixed false false n true h = refl
-mixed false false n false h = refl
+-- the group is told by the sort
+grouped : (g s x : Bool) → (s ≡ true → g ≡ true) → g && (s && x) ≡ s && x
+grouped g true x h = rw (h refl) refl
+grouped true false x h = refl
+grouped false false x h = refl
 
 fields-same : (r q : Rec) → formOk (r .sub) (r .half) (r .long) ≡ true → formOk (q .sub) (q .half) (q .long) ≡ true
     → same (entryFrom r .key) (entryFrom q .key) ≡ sameFields r q
@@ -60,7 +53,7 @@ fields-same r q e f =
     let x = form-key (r .sub) (r .half) (r .long) e in
     let y = form-key (q .sub) (q .half) (q .long) f in
     rw (group-sort (r .sub) (r .half) (r .long), group-sort (q .sub) (q .half) (q .long), x .1, x .2, x .3, y .1, y .2, y .3)
-    (mixed (eqb (groupBySort (r .sub)) (groupBySort (q .sub))) (eqb (r .sub) (q .sub)) (eqb (r .half) (q .half)) (eqb (r .long) (q .long))
+    (grouped (eqb (groupBySort (r .sub)) (groupBySort (q .sub))) (eqb (r .sub) (q .sub)) (eqb (r .half) (q .half) && eqb (r .long) (q .long))
     (λ z. eq-eqb (groupBySort (r .sub)) (groupBySort (q .sub)) (ap groupBySort (eqb-true (r .sub) (q .sub) z))))
 
 any-among : (r : Rec) (qs : List Rec) → formOk (r .sub) (r .half) (r .long) ≡ true → Forms qs

@@ -4,15 +4,17 @@
 use mathlib.Core.Path.{_≡_}
 use mathlib.Core.Bool.{Bool}
 use mathlib.Core.List.{List}
-use Prim.Native.Nat.{ℕ, suc, _+_, _-_, _*_, _%_}
+use Prim.Native.Nat.{ℕ, suc, _-_}
 use lib.Dec.{eqb}
 use lib.ListN.{getD}
 use Rattle.records.specs.declared.Rec.{Rec}
 use Rattle.records.specs.Records.{zeroRec}
+use Rattle.indexing_iter.specs.Rows.{headBy}
+use Rattle.indexing.specs.Chains.{bucketBy}
 
 -- an entry's bucket, of size many: of sort, arity and bits alone, so that equal keys have the same
 unfoldable pub bucketOf : ℕ → Rec → ℕ
-bucketOf size r = (r .long % 4294967291 + 40503 * r .half + 65537 * r .sub) % size
+bucketOf size r = bucketBy size (headBy (r .sub) (r .half)) (r .long)
 
 -- a table has 0 at every place
 abbrev pub Cleared : List ℕ → Type 0

@@ -194,7 +194,7 @@ noted k lines first firsts = cond (eqb k 1) (set firsts lines first) firsts
 
 -- section 2: two entries have equal keys if sort, arity and bits are equal
 unfoldable pub sameFields : Rec → Rec → Bool
-sameFields r q = eqb (r .long) (q .long) && (eqb (r .sub) (q .sub) && eqb (r .half) (q .half))
+sameFields r q = eqb (r .sub) (q .sub) && (eqb (r .half) (q .half) && eqb (r .long) (q .long))
 
 -- one of some entries has the key of r
 unfoldable pub among : Rec → List Rec → Bool

@@ -1,27 +1,30 @@
 // The keys of a switch are distinct.
+use indexing::key_buckets;
 use records::Rec;
 ghost use mathlib.Core.Path.{_≡_};
 ghost use mathlib.Core.Bool.{cond, true};
 ghost use Prim.Native.Nat.{_+_, _-_, _<_, _≤_};
 ghost use lib.Dec.{eqb};
-ghost use lib.ListN.{length, getD, set};
+ghost use lib.ListN.{length, getD};
 ghost use lib.Seq.{slice};
 ghost use Rattle.records.specs.Records.{recordsOf, zeroRec};
+ghost use Rattle.indexing_iter.specs.Rows.{headBy};
 ghost use Rattle.well_formed.specs.Pass.{sameFields, among, distinctKeys};
 ghost use Rattle.indexing.specs.Chains.{Chained};
 ghost use Rattle.well_formed.specs.Chains.{bucketOf, inBucket, Cleared};
+
+// The first number of an entry's key: its sort and arity.
+fn head_from(r: Rec) -> u32
+    ensures { λ h. ⌜ (h ≡ headBy (r .sub) (r .half)) × (r .half < 65536) ⌝ }
+{
+    indexing_iter::head_by(r.sub as u16, r.half)
+}
 
 // Whether two entries have equal keys.
 fn same_fields(r: Rec, q: Rec) -> bool
     ensures { λ b. ⌜ b ≡ sameFields r q ⌝ }
 {
-    if r.long != q.long {
-        return false;
-    }
-    if r.sub != q.sub {
-        return false;
-    }
-    r.half == q.half
+    indexing_iter::same_bits(head_from(r), r.long, head_from(q), q.long)
 }
 
 // Whether the entry at a place has the key of r.
@@ -65,17 +68,6 @@ fn distinct_pairs(index: &[u8], from: usize, to: usize) -> bool
     true
 }
 
-// The bucket of a key: of sort, arity and bits alone, so that equal keys have the same.
-fn bucket_of(r: Rec, size: usize) -> usize
-    requires { ⌜ 0 < size ⌝ }
-    ensures { λ b. ⌜ (b ≡ bucketOf size r) × (b < size) ⌝ }
-{
-    let bits = r.long % 4294967291;
-    let arity = r.half as u64;
-    let sort = r.sub as u64;
-    ((bits + 40503 * arity + 65537 * sort) % (size as u64)) as usize
-}
-
 // Whether one of the entries behind a place, up to another, has its key: those in its bucket are looked at, one by one. Where 32 of
 // them do not decide it, all entries behind are looked at: a crowded bucket costs 32 comparisons for each key more than pair by pair.
 fn key_chained(
@@ -107,18 +99,8 @@ fn key_chained(
     false
 }
 
-// An entry becomes the first of its bucket; number entries are behind it. A bucket holds the number of its first entry, counted from
-// the last (0: none), a link that of the next one in the same bucket.
-fn push(heads: &mut [u16], links: &mut [u16], bucket: usize, number: usize)
-    requires { ⌜ (bucket < length (now heads)) × (number < length (now links)) × (number < 65535) ⌝ }
-    ensures { λ _. ⌜ now (heads .exit) ≡ set (now (heads .entry)) bucket (number + 1) ⌝ }
-    ensures { λ _. ⌜ now (links .exit) ≡ set (now (links .entry)) number (getD (now (heads .entry)) bucket 0) ⌝ }
-{
-    links[number] = heads[bucket];
-    heads[bucket] = (number + 1) as u16;
-}
-
-// Whether no two of the entries have equal keys: from the last to the first, each compared with those behind it in its bucket.
+// Whether no two of the entries have equal keys: from the last to the first, each compared with those behind it in its bucket. Entries are
+// counted from the last.
 fn distinct_chained(
     index: &[u8],
     from: usize,
@@ -136,11 +118,11 @@ fn distinct_chained(
         let number = to - i;
         i -= 1;
         let r = records::get(index, i);
-        let bucket = bucket_of(r, heads.len());
+        let bucket = key_buckets::bucket_of(head_from(r), r.long, heads.len());
         if key_chained(index, i, to, bucket, heads, links) {
             return false;
         }
-        push(heads, links, bucket, number);
+        key_buckets::push(heads, links, bucket, number);
     }
     true
 }

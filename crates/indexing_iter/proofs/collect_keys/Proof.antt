@@ -142,7 +142,7 @@ loop-again c =
     (λ w.
     let n = w .1 .given .0 .0 - 1 in
     let k = rw (w .1 .given .1) at (turn x) in
-    let h : c .match2 .heads ≡ set (l .heads) n (headOf (w .1 .given .0 .1 .0)) = w .5 ∙ ap (set (l .heads) n) (w .3 .ensures) in
+    let h : c .match2 .heads ≡ set (l .heads) n (headOf (w .1 .given .0 .1 .0)) = w .5 ∙ ap (set (l .heads) n) (w .3 .ensures .0) in
     let b : c .match2 .bits ≡ set (l .bits) n (bitsOf (w .1 .given .0 .1 .0)) = w .6 ∙ ap (set (l .bits) n) (w .4 .ensures) in (
       ap length h ∙ length-set (l .heads) n _ ∙ l .inv .0,
       ap length b ∙ length-set (l .bits) n _ ∙ l .inv .1,

@@ -8,9 +8,9 @@ use Rattle.index_writer.proofs.columns.next_leader.Statement.{statement
 use Rattle.index_writer.proofs.columns.next_leader.Tie as tie
 use Rattle.index_writer.proofs.columns.next_leader.Reads as reads
 use Rattle.index_writer.proofs.columns.next_leader.Lts as lts
-use Rattle.index_writer.proofs.columns.bucket_of.Reads as bucket-of-reads
+use Rattle.indexing.proofs.key_buckets.bucket_of.Reads as bucket-of-reads
 use Rattle.index_writer.proofs.columns.chained_leader.Reads as chained-leader-reads
-use Rattle.index_writer.proofs.columns.push.Reads as push-reads
+use Rattle.indexing.proofs.key_buckets.push.Reads as push-reads
 
 mul-bucket-of : tie.Need-mul-bucket-of
 mul-bucket-of c = search needs

@@ -1,22 +1,29 @@
--- Two keys are equal if bits, sort and arity are. Assumes nothing.
-use borrow.Author.Tests.{eq-eqb, ne-eqb}
+-- Two keys are equal if their two numbers are: sort and arity, and the bits. Assumes nothing.
+use Rattle.indexing_iter.proofs.SameKeys.{same-by-numbers}
 use Rattle.well_formed.specs.Pass.{sameFields}
+use borrow.Author.Needs.{needs}
 use Rattle.well_formed.proofs.keys.same_fields.Statement.{statement}
 use Rattle.well_formed.proofs.keys.same_fields.Tie as tie
 use Rattle.well_formed.proofs.keys.same_fields.Reads as reads
 use Rattle.well_formed.proofs.keys.same_fields.Lts as lts
 
+head-from-requires : tie.Need-head-from-requires
+head-from-requires c κs = search needs
+
+head-from-requires-2 : tie.Need-head-from-requires-2
+head-from-requires-2 c κs = search needs
+
+same-bits-requires : tie.Need-same-bits-requires
+same-bits-requires c κs = search needs
+
 returns : tie.Need-returns
 unfolding sameFields
-returns c = rw (ne-eqb _ _ (c .if1 .taken))
-
-returns-2 : tie.Need-returns-2
-unfolding sameFields
-returns-2 c = rw (eq-eqb _ _ (c .before .before .before .if1 .left), ne-eqb _ _ (c .if2 .taken))
-
-returns-3 : tie.Need-returns-3
-unfolding sameFields
-returns-3 c = let e = c .before .before in rw (eq-eqb _ _ (e .before .before .before .if1 .left), eq-eqb _ _ (e .if2 .left))
+returns c =
+    let r = c .before .before .before .args .r in
+    let q = c .before .before .before .args .q in
+    let n = c .before .before .head-from .ensures in
+    let m = c .before .head-from2 .ensures in
+    rw (← same-by-numbers (r .sub) (r .half) (r .long) (q .sub) (q .half) (q .long) (n .1) (m .1), ← n .0, ← m .0) (c .same-bits .ensures)
 
 pub same-fields-spec : {M : Type 1} → statement M
-same-fields-spec = tie.close (tie.spec returns returns-2 returns-3)
+same-fields-spec = tie.close (tie.spec head-from-requires head-from-requires-2 same-bits-requires returns)
