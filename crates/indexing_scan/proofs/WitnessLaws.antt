@@ -20,7 +20,7 @@ use Rattle.indexing_scan.specs.declared.witness.Witnessed.{Witnessed}
 use Rattle.indexing_scan.specs.declared.witness.Witnessed.the-variants.{Found, Refused as RefusedBy}
 use Rattle.indexing_scan.specs.Agree.{Call, agreeAt, agreeFrom}
 use Rattle.indexing_scan.specs.Calls.{checkCall, witnessChecks, agreeing, isWitness}
-use Rattle.indexing_scan.specs.Witness.{numberIn, Witnesses, firstOf}
+use Rattle.indexing_scan.specs.Witness.{Witnesses, firstOf}
 use Rattle.indexing_scan.proofs.CallLaws.{rest-step}
 
 -- ---- a clause, argument by argument
@@ -58,11 +58,13 @@ pub first-witness : (os : List ℕ) → isWitness os (firstOf os) ≡ true
 first-witness [] = refl
 first-witness (o ∷ os) = rw (eq-eqb o o refl) refl
 
--- ---- the answer's numbers
+-- ---- the answer
 
-pub witness-number : (c : Checked) (os : List ℕ) (w : Witnessed) → Witnesses c os w → numberIn w ≡ numberOf c
-witness-number Passed os w h = ap numberIn (h .0)
-witness-number (Refused n) os w h = ap numberIn h
+refused-as : (c : Checked) (n : ℕ) (os : List ℕ) (w : Witnessed) → c ≡ Refused n → w ≡ RefusedBy (numberOf c) → Witnesses c os w
+refused-as c n os w e f = rw (f, e) (refl, refl, refl)
+
+found-as : (os : List ℕ) (o : ℕ) → o ≡ firstOf os → Witnesses Passed os (Found o)
+found-as os o e = (refl, refl, ap (isWitness os) e ∙ first-witness os)
 
 -- ---- the offset of a clause
 
@@ -79,17 +81,15 @@ module _ (cls : ℕ → ℕ) (code starts : List ℕ) (S : Settings) (call : Lis
   pub refused-first : (n : ℕ) (w : Witnessed) → x ≡ Refused n → w ≡ RefusedBy (numberOf x)
       → Witnesses (witnessChecks cls code starts S call) (agreeing cls code starts S call) w
   unfolding witnessChecks
-  refused-first n w e f = rw (← first, e) (f ∙ ap (λ (c : Checked). RefusedBy (numberOf c)) e)
+  refused-first n w e f = rw (← first, e) (rw e at (refused-as x n (agreeing cls code starts S call) w e f))
 
   module _ (passed : x ≡ Passed) (y : Checked) (next : y ≡ checkCall (S .arity) call) where
     pub refused-next : (n : ℕ) (w : Witnessed) → y ≡ Refused n → w ≡ RefusedBy (numberOf y)
         → Witnesses (witnessChecks cls code starts S call) (agreeing cls code starts S call) w
     unfolding witnessChecks
-    refused-next n w e f = rw (← first, passed, ← next, e) (f ∙ ap (λ (c : Checked). RefusedBy (numberOf c)) e)
+    refused-next n w e f = rw (← first, passed, ← next) (refused-as y n (agreeing cls code starts S call) w e f)
 
     pub found-first : (o : ℕ) → y ≡ Passed → o ≡ firstOf (agreeing cls code starts S call)
         → Witnesses (witnessChecks cls code starts S call) (agreeing cls code starts S call) (Found o)
     unfolding witnessChecks
-    found-first o e f =
-        rw (← first, passed, ← next, e)
-        (refl, ap (isWitness (agreeing cls code starts S call)) f ∙ first-witness (agreeing cls code starts S call))
+    found-first o e f = rw (← first, passed, ← next, e) (found-as (agreeing cls code starts S call) o f)

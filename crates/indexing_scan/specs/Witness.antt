@@ -20,11 +20,11 @@ abbrev pub offsetIn : Witnessed → ℕ
 offsetIn (Found o) = o
 offsetIn (RefusedBy n) = 0
 
--- what a witness answers, by the checks and the offsets of the clauses that agree: a refusal as the checks have it; accepted, an offset
--- of one of them, 0 if there is none. Which of them is left free
+-- what a witness answers, by the checks and the offsets of the clauses that agree: its case, number and offset. Refused, the number is
+-- the checks'; accepted, the offset is that of one of these clauses, 0 if there is none. Which of them is left free
 abbrev pub Witnesses : Checked → List ℕ → Witnessed → Type 0
-Witnesses (Refused n) os w = w ≡ RefusedBy n
-Witnesses Passed os w = (w ≡ Found (offsetIn w)) × (isWitness os (offsetIn w) ≡ true)
+Witnesses (Refused n) os w = (w ≡ RefusedBy (numberIn w)) × (numberIn w ≡ n) × (offsetIn w ≡ 0)
+Witnesses Passed os w = (w ≡ Found (offsetIn w)) × (numberIn w ≡ 0) × (isWitness os (offsetIn w) ≡ true)
 
 -- the first of some offsets, 0 if there is none (for contracts of inner functions)
 abbrev pub firstOf : List ℕ → ℕ

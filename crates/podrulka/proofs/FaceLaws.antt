@@ -1,7 +1,7 @@
 -- From what the libraries below answer to the numbers in the lent array. Assumes nothing.
 use mathlib.Core.Path.{_≡_, refl, ap, _∙_}
 use Prim.Native.Nat.{ℕ}
-use mathlib.Core.List.{List, [], _∷_}
+use mathlib.Core.List.{List, []}
 use Rattle.indexing_iter.specs.declared.Checked.{Checked}
 use Rattle.indexing_iter.specs.declared.Checked.the-variants.{Passed, Refused}
 use Rattle.indexing_iter.specs.Checks.{numberOf}
@@ -14,8 +14,8 @@ use Rattle.indexing_walk.specs.declared.WalkAnswer.the-variants.{Answered, Refu
 use Rattle.indexing_walk.specs.Answers.{walkedOf}
 use Rattle.indexing_scan.specs.declared.witness.Witnessed.{Witnessed}
 use Rattle.indexing_scan.specs.Calls.{Walked}
-use Rattle.indexing_scan.specs.Witness.{numberIn, offsetIn, Witnesses}
-use Rattle.podrulka.specs.Face.{laid, builtNumbers, walkedNumbers, Found}
+use Rattle.indexing_scan.specs.Witness.{numberIn, Witnesses}
+use Rattle.podrulka.specs.Face.{laid, builtNumbers, walkedNumbers, witnessedNumbers, Found}
 
 -- the builder's number does not depend on the buffer, nor do its other numbers
 built-number : (a : BuildAnswer) (index : List ℕ) → builtOf a [] .number ≡ builtOf a index .number
@@ -66,12 +66,8 @@ walked-face a W index out before after n e h =
 
 -- the witness's numbers, by its checks
 pub witnessed-face : (k : Checked) (offsets : List ℕ) (w : Witnessed) (before after : List ℕ) (n : ℕ) → Witnesses k offsets w
-    → (n ≡ numberIn w) × (after ≡ laid (numberIn w ∷ offsetIn w ∷ []) before)
+    → (n ≡ numberIn w) × (after ≡ laid (witnessedNumbers w) before)
     → (n ≡ numberOf k) × Found k offsets before after
 unfolding Found
-witnessed-face (Refused m) offsets w before after n e h =
-    (h .0 ∙ ap (λ (x : Witnessed). numberIn x) e,
-    h .1 ∙ ap (λ (x : Witnessed). laid (numberIn x ∷ offsetIn x ∷ []) before) e)
-witnessed-face Passed offsets w before after n e h =
-    (h .0 ∙ ap (λ (x : Witnessed). numberIn x) (e .0),
-    (offsetIn w, e .1, h .1 ∙ ap (λ (x : ℕ). laid (x ∷ offsetIn w ∷ []) before) (ap (λ (x : Witnessed). numberIn x) (e .0))))
+witnessed-face (Refused m) offsets w before after n e h = (h .0 ∙ e .1, (w, e, h .1))
+witnessed-face Passed offsets w before after n e h = (h .0 ∙ e .1, (w, e, h .1))

@@ -2,15 +2,16 @@
 -- Assumes nothing.
 use mathlib.Core.Path.{_≡_}
 use Prim.Native.Nat.{ℕ, _/_, _%_}
-use mathlib.Core.Bool.{Bool, true}
+use mathlib.Core.Bool.{Bool}
 use mathlib.Core.List.{List, [], _∷_, _++_}
 use lib.Dec.{eqb}
 use lib.ListN.{length, take, drop}
 use Rattle.indexing_iter.specs.declared.Settings.{Settings}
 use Rattle.indexing_iter.specs.declared.Checked.{Checked}
-use Rattle.indexing_iter.specs.declared.Checked.the-variants.{Passed, Refused}
 use Rattle.indexing.specs.Builder.{Built}
-use Rattle.indexing_scan.specs.Calls.{Walked, isWitness}
+use Rattle.indexing_scan.specs.declared.witness.Witnessed.{Witnessed}
+use Rattle.indexing_scan.specs.Calls.{Walked}
+use Rattle.indexing_scan.specs.Witness.{numberIn, offsetIn, Witnesses}
 
 -- the flag whose value is k
 abbrev pub flagOf : ℕ → ℕ → Bool
@@ -31,7 +32,9 @@ builtNumbers b = b .number ∷ b .count ∷ b .variable ∷ []
 abbrev pub walkedNumbers : Walked → List ℕ
 walkedNumbers w = w .number ∷ w .case ∷ w .line ∷ w .count ∷ w .tables ∷ w .mark ∷ w .records ∷ []
 
--- the witness's numbers, by its checks and the offsets of the clauses that agree: which of these stands there is left free
+abbrev pub witnessedNumbers : Witnessed → List ℕ
+witnessedNumbers w = numberIn w ∷ offsetIn w ∷ []
+
+-- the numbers of an answer of the witness, by its checks and the offsets of the clauses that agree
 unfoldable pub Found : Checked → List ℕ → List ℕ → List ℕ → Type 0
-Found (Refused n) offsets before after = after ≡ laid (n ∷ 0 ∷ []) before
-Found Passed offsets before after = (o : ℕ) × (isWitness offsets o ≡ true) × (after ≡ laid (0 ∷ o ∷ []) before)
+Found checks offsets before after = (w : Witnessed) × Witnesses checks offsets w × (after ≡ laid (witnessedNumbers w) before)

@@ -7,16 +7,16 @@ use indexing_walk::WalkAnswer;
 
 ghost use mathlib.Core.Path.{_≡_};
 ghost use mathlib.Core.Bool.{cond};
-ghost use mathlib.Core.List.{[], _∷_};
+ghost use mathlib.Core.List.{[]};
 ghost use Prim.Native.Nat.{_<_};
 ghost use Rattle.indexing_iter.specs.Checks.{numberOf};
 ghost use Rattle.indexing_iter.specs.Classes.{classOf};
 ghost use Rattle.indexing.specs.Builder.{buildCall};
 ghost use Rattle.indexing_scan.specs.Calls.{walkCall, witnessChecks, agreeing};
-ghost use Rattle.indexing_scan.specs.Witness.{numberIn, offsetIn};
+ghost use Rattle.indexing_scan.specs.Witness.{numberIn};
 ghost use Rattle.indexing_builder.specs.Answer.{builtOf};
 ghost use Rattle.indexing_walk.specs.Answers.{walkedOf};
-ghost use Rattle.podrulka.specs.Face.{flagOf, settingsBy, laid, builtNumbers, walkedNumbers, Found};
+ghost use Rattle.podrulka.specs.Face.{flagOf, settingsBy, laid, builtNumbers, walkedNumbers, witnessedNumbers, Found};
 
 // The flag whose value is k.
 fn flag(flags: u32, k: u32) -> bool
@@ -103,7 +103,7 @@ fn lay_walked(a: WalkAnswer, result: &mut [u64]) -> u32
 // Writes the witness's answer, and returns its number.
 fn lay_witnessed(a: Witnessed, result: &mut [u64]) -> u32
     ensures { λ r. ⌜ r ≡ numberIn a ⌝ }
-    ensures { λ _. ⌜ now (result .exit) ≡ laid (numberIn a ∷ offsetIn a ∷ []) (now (result .entry)) ⌝ }
+    ensures { λ _. ⌜ now (result .exit) ≡ laid (witnessedNumbers a) (now (result .entry)) ⌝ }
 {
     match a {
         Witnessed::Found(offset) => {
