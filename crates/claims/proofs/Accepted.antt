@@ -3,26 +3,22 @@
 use mathlib.Core.Path.{_≡_, refl}
 use mathlib.Core.Bool.{Bool, true, false, cond, not, _&&_, _||_}
 use mathlib.Core.List.{List, [], _∷_}
-use Prim.Native.Nat.{ℕ, zero, suc, _+_, _/_, _%_, _≤_, _<_}
+use Prim.Native.Nat.{ℕ, suc, _/_, _%_, _≤_, _<_}
 use native.Mathlib.Omega.{arith}
 use lib.Dec.{eqb, leb, ltb}
-use lib.ListN.{length, getD, take, drop, length-map}
-use lib.Seq.{slice, getD-drop}
+use lib.ListN.{length, getD, length-map}
 use borrow.Author.Tests.{ltb-false}
 use Rattle.records.specs.declared.Rec.{Rec}
-use Rattle.records.specs.Records.{recordsOf, zeroRec, Fits, AllFit}
-use Rattle.records.proofs.Fitting.{fit-none, fit-recordsOf}
+use Rattle.records.specs.Records.{recordsOf}
 use Rattle.records.proofs.Whole.{Bytes}
 use Rattle.indexing_iter.specs.declared.Settings.{Settings}
-use Rattle.indexing_iter.specs.declared.OptArgIndexKey.{OptArgIndexKey as Key}
-use Rattle.indexing_iter.specs.declared.OptArgIndexKey.the-variants.{Literal, Structure, List as ListKey}
 use Rattle.indexing_iter.specs.declared.InstructionArg.{InstructionArg}
 use Rattle.indexing_iter.specs.declared.InstructionArg.the-variants.{ArgedHead, ArglessHead, NonHead, Prologue}
 use Rattle.indexing_iter.specs.declared.Checked.{Checked}
 use Rattle.indexing_iter.specs.declared.Checked.the-variants.{Passed, Refused}
-use Rattle.indexing_iter.specs.Classes.{isKeyed, isShallowTemp, keyOfClass, argOfClass, instructionArg}
-use Rattle.indexing_iter.specs.Keys.{arityOf, bitsOf, isOpen, keyStep, keyIn}
-use Rattle.indexing_iter.specs.Clauses.{endOf, clausesOf, offsetsOf, clauseAt, keyOf, known}
+use Rattle.indexing_iter.specs.Classes.{instructionArg}
+use Rattle.indexing_iter.specs.Keys.{isOpen}
+use Rattle.indexing_iter.specs.Clauses.{clausesOf, offsetsOf, known}
 use Rattle.indexing_iter.specs.Checks.{otherwise, refuse, checkArity, checkChosen, checkSize, checkStarts, risingBelow, hasBody, recordBad, registerBad, registerStep}
 use Rattle.indexing_iter.specs.Checks.{checkRecords, checkClause, checkClauses, openSomewhere, checkKeyed, checkClausesOf, checkCode, checkBuild}
 use Rattle.indexing_iter.proofs.CheckLaws.{Rising, code-arity, code-starts, code-offsets, offset-known, build-code, build-chosen}
@@ -35,6 +31,7 @@ use Rattle.indexing.specs.Expand.{expand}
 use Rattle.indexing.specs.Seed.{seed}
 use Rattle.indexing.specs.Builder.{capacityOf, stored, checkRoom, builtBy, indexOf, buildCall}
 use Rattle.well_formed.proofs.CodeKeys.{code-keys}
+use Rattle.well_formed.proofs.Fields.{Narrow, code-narrow}
 use Rattle.well_formed.specs.WellFormed.{risingOk, keyOk}
 
 -- ---- no check refuses with the number 0
@@ -124,74 +121,6 @@ module _ (cls : ℕ → ℕ) (code starts : List ℕ) (S : Settings) (c : ℕ) (
   pub accepted-is-expanded : let P = programOf cls S (recordsOf code) starts in indexOf cls code starts S c ≡ expand P (seed P c (offsetsOf starts)) 0 c
   unfolding indexOf
   accepted-is-expanded = built-is-expanded _ c (offsetsOf starts) (keyed-by-checks cls code starts S c built-checked)
-
--- ---- the keys of a code
-
--- a key whose arity and bits fit a record
-abbrev pub Narrow : Key → Type 0
-Narrow k = (arityOf k < 65536) × (bitsOf k < 18446744073709551616)
-
-abbrev NarrowArg : InstructionArg → Type 0
-NarrowArg NonHead = Unit {0}
-NarrowArg Prologue = Unit {0}
-NarrowArg ArglessHead = Unit {0}
-NarrowArg (ArgedHead reg key) = Narrow key
-
-narrow-arg : (class : ℕ) (r : Rec) → Fits r → NarrowArg (argOfClass class r)
-unfolding argOfClass
-narrow-arg class r f = go (eqb class 1) (eqb class 2) (isKeyed class) (isShallowTemp r)
-  where
-    key : (x y : Bool) → Narrow (cond x (Structure (r .half) (r .long)) (cond y (Literal (r .half) (r .long)) ListKey))
-    key true y = (f .half, f .long)
-    key false true = (omega arith, f .long)
-    key false false = (omega arith, omega arith)
-
-    go : (p q keyed temp : Bool)
-        → NarrowArg (cond p Prologue (cond q ArglessHead (cond keyed (cond temp (ArgedHead (r .word) (keyOfClass class r)) NonHead) NonHead)))
-    go true q keyed temp = tt
-    go false true keyed temp = tt
-    go false false false temp = tt
-    go false false true false = tt
-    go false false true true = key (eqb class 3) (eqb class 5)
-
-narrow-step : (a : InstructionArg) (j : ℕ) (rest : Key) → NarrowArg a → Narrow rest → Narrow (keyStep a j rest)
-narrow-step NonHead j rest f g = (omega arith, omega arith)
-narrow-step Prologue j rest f g = g
-narrow-step ArglessHead j rest f g = g
-narrow-step (ArgedHead reg key) j rest f g = go (eqb reg j)
-  where
-    go : (t : Bool) → Narrow (cond t key rest)
-    go true = f
-    go false = g
-
-narrow-in : (cls : ℕ → ℕ) (rs : List Rec) (j : ℕ) → AllFit rs → Narrow (keyIn cls rs j)
-unfolding keyIn
-narrow-in cls [] j f = (omega arith, omega arith)
-narrow-in cls (r ∷ rs) j f =
-    narrow-step (instructionArg cls r) j (keyIn cls rs j) (narrow-arg (cls (r .kind)) r (f 0)) (narrow-in cls rs j (λ i. f (suc i)))
-
-fit-take : (n : ℕ) (rs : List Rec) → AllFit rs → AllFit (take n rs)
-fit-take zero rs f i = fit-none
-fit-take (suc n) [] f i = fit-none
-fit-take (suc n) (r ∷ rs) f zero = f 0
-fit-take (suc n) (r ∷ rs) f (suc i) = fit-take n rs (λ k. f (suc k)) i
-
-fit-drop : (n : ℕ) (rs : List Rec) → AllFit rs → AllFit (drop n rs)
-fit-drop n rs f i = rw (getD-drop n rs i zeroRec) (f (n + i))
-
-fit-clause : (rs : List Rec) (starts : List ℕ) (o : ℕ) → AllFit rs → AllFit (clauseAt rs starts o)
-unfolding clauseAt
-fit-clause rs [] o f = λ i. fit-none
-fit-clause rs (s ∷ ss) o f = go (eqb (suc s) o) (fit-clause rs ss o f)
-  where
-    go : (t : Bool) → AllFit (clauseAt rs ss o) → AllFit (cond t (slice s (endOf (length rs) ss) rs) (clauseAt rs ss o))
-    go true g = fit-drop s (take (endOf (length rs) ss) rs) (fit-take (endOf (length rs) ss) rs f)
-    go false g = g
-
--- the keys of a code that is a list of bytes
-code-narrow : (cls : ℕ → ℕ) (code starts : List ℕ) (o a : ℕ) → Bytes code → Narrow (keyOf cls (recordsOf code) starts o a)
-unfolding keyOf
-code-narrow cls code starts o a f = narrow-in cls (clauseAt (recordsOf code) starts o) a (fit-clause (recordsOf code) starts o (fit-recordsOf code f))
 
 -- ---- the offsets
 

@@ -17,6 +17,7 @@ use Rattle.indexing_iter.specs.Clauses.{offsetsOf, known}
 use Rattle.indexing_iter.specs.Checks.{otherwise, refuse}
 use Rattle.indexing_iter.proofs.CheckLaws.{build-code}
 use Rattle.indexing.proofs.Grown.{Grown, grown-same, grown-size, grown-fits}
+use Rattle.indexing.proofs.Stored.{stored-over}
 use Rattle.indexing.proofs.Tests.{both, le-true}
 use Rattle.indexing.specs.Build.{Program, programOf, build}
 use Rattle.indexing.specs.Builder.{Built, capacityOf, stored, indexOf, buildCall}
@@ -34,7 +35,7 @@ use Rattle.claims.specs.Demand3.{countAfter, callsAfter, Every, Demand3}
 use Rattle.claims.proofs.Accepted.{Ready, ready, built-checked, built-room, built-is}
 use Rattle.claims.proofs.Runs as Runs
 use Rattle.claims.proofs.Runs.{Kept, kept-start, kept-next, each, grows}
-use Rattle.claims.proofs.Stored.{stored-over, came-parse, came-well, came-capacity}
+use Rattle.claims.proofs.Stored.{came-parse, came-well, came-capacity}
 use Rattle.claims.proofs.Unlimited.{Enough, enough}
 
 rises : (n : ℕ) (xs : List ℕ) → Rising n xs → Rises n xs

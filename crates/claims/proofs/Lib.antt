@@ -4,7 +4,6 @@ pub mod Built
 pub mod Runs
 pub mod Show
 pub mod Accepted
-pub mod Fields
 pub mod Stored
 pub mod Unlimited
 pub mod Demand3

@@ -2,62 +2,22 @@
 -- Assumes nothing.
 use mathlib.Core.Path.{_≡_, _∙_, ap}
 use mathlib.Core.Bool.{Bool, true}
-use mathlib.Core.List.{List, [], _∷_, _++_}
-use Prim.Native.Nat.{ℕ, _+_, _-_, _*_, _/_, _≤_, min}
+use mathlib.Core.List.{List, [], _∷_}
+use Prim.Native.Nat.{ℕ, _≤_}
 use native.Mathlib.Omega.{arith}
-use lib.ListN.{length, take, drop, length-append, length-drop}
-use lib.Seq.{take-at, drop-append-add, drop-drop}
-use Rattle.records.specs.declared.Rec.{Rec}
-use Rattle.records.specs.Records.{encode, recordsOf, AllFit}
-use Rattle.records.proofs.Fitting.{recordsOf-encode}
-use Rattle.records.proofs.Laws.{length-encode}
+use lib.ListN.{length, take}
+use Rattle.records.specs.Records.{recordsOf, AllFit}
 use Rattle.indexing.proofs.Grown.{Grown, grown-fits}
-use Rattle.indexing.proofs.Size.{length-records, lines-size}
+use Rattle.indexing.proofs.Size.{lines-size}
+use Rattle.indexing.proofs.Stored.{stored-capacity, stored-records}
 use Rattle.indexing.specs.Build.{Program, openAt, build}
 use Rattle.indexing.specs.Builder.{capacityOf, stored}
 use Rattle.indexing.specs.Lines.{Index, size, modeOf, records}
 use Rattle.indexing.specs.Reading.{parse}
+use Rattle.well_formed.proofs.Fields.{narrow-built, narrow-grown, fit-index}
 use Rattle.well_formed.proofs.Sound.{ok-parse, ok-well, grown-ok, built-ok}
 use Rattle.well_formed.specs.WellFormed.{risingOk, indexOk, wellFormed}
 use Rattle.claims.proofs.Accepted.{Ready}
-use Rattle.claims.proofs.Fields.{narrow-built, narrow-grown, fit-index}
-
--- ---- a stored index, whatever it is
-
-module _ (dynamic : Bool) (idx : Index) (b : List ℕ) where
-  written : length (encode (records (modeOf dynamic) 0 idx)) ≡ 16 * size idx
-  written = length-encode (records (modeOf dynamic) 0 idx) ∙ ap (λ (n : ℕ). 16 * n) (length-records (modeOf dynamic) 0 idx)
-
-  stored-length : size idx ≤ capacityOf b → length (stored dynamic idx b) ≡ length b
-  unfolding stored
-  stored-length h =
-      length-append (encode (records (modeOf dynamic) 0 idx)) (drop (16 * size idx) b)
-      ∙ omega (arith, written, length-drop (16 * size idx) b)
-
-  pub stored-capacity : size idx ≤ capacityOf b → capacityOf (stored dynamic idx b) ≡ capacityOf b
-  stored-capacity h = ap (λ (n : ℕ). min (n / 16) 65535) (stored-length h)
-
-  -- its records are the first of the buffer
-  pub stored-records : AllFit (records (modeOf dynamic) 0 idx) → take (size idx) (recordsOf (stored dynamic idx b)) ≡ records (modeOf dynamic) 0 idx
-  unfolding stored
-  stored-records f =
-      let rs : List Rec = records (modeOf dynamic) 0 idx in
-      ap (take (size idx)) (recordsOf-encode rs (drop (16 * size idx) b) f)
-      ∙ take-at rs (recordsOf (drop (16 * size idx) b)) (size idx) (length-records (modeOf dynamic) 0 idx)
-
-  -- a later one takes its place
-  pub stored-over : (idx′ : Index) → size idx ≤ size idx′ → stored dynamic idx′ (stored dynamic idx b) ≡ stored dynamic idx′ b
-  unfolding stored
-  stored-over idx′ h =
-      let e : List ℕ = encode (records (modeOf dynamic) 0 idx) in
-      let k : ℕ = 16 * size idx′ - 16 * size idx in
-      let p : 16 * size idx′ ≡ length e + k = omega (arith, written) in
-      let q : 16 * size idx + k ≡ 16 * size idx′ = omega arith in
-      ap (λ (l : List ℕ). encode (records (modeOf dynamic) 0 idx′) ++ l)
-      (ap (λ (n : ℕ). drop n (e ++ drop (16 * size idx) b)) p
-      ∙ drop-append-add e (drop (16 * size idx) b) k ∙ drop-drop k (16 * size idx) b ∙ ap (λ (n : ℕ). drop n b) q)
-
--- ---- an index that comes of the built one
 
 module _ (P : Program) (kn : ℕ → Bool) (c : ℕ) (os : List ℕ) (ready : Ready P kn c os) where
   built-sound : (os : List ℕ) → 1 ≤ length os → openAt P c os ≡ [] → risingOk kn 1 os ≡ true → indexOk (P .arity) (P .dynamic) kn (build P c os) ≡ true

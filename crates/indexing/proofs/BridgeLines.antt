@@ -18,7 +18,7 @@ use Rattle.indexing_iter.specs.Keys.{groupOf, same}
 use Rattle.indexing.specs.Upto.{bit, countTo, anyTo, listTo}
 use Rattle.indexing.specs.Columns.{groupOfHead, member, leads, sizeOf, needsLine, opensBucket, opensLine, linesTo, emptyList, listLines, openMember}
 use Rattle.indexing.specs.Columns.{tablesAt, tagAt, choiceAt, choices, lineOf, lineAt, groupLines, listLine, newLinesRecs, seedRecs, deadRecs}
-use Rattle.indexing.specs.Expanding.{opensOf}
+use Rattle.indexing.specs.Expanding.{tagsOf, opensOf}
 use Rattle.indexing.specs.Lists.{add, keep}
 use Rattle.indexing.specs.Lines.{dead, Choice, Line, offs, deadRec, tableRecs, tablesRecs, choiceRec, modeOf, records}
 use Rattle.indexing.specs.Build.{Program, programBy, consLine, openAt, laterTables, tagRest, tagStatic, retag, newLine, keysAt, literals, lists}
@@ -66,10 +66,6 @@ module _ {A B : Type 0} where
 
 abbrev pub noChoice : Choice
 noChoice = record { tag = 0; offset = 0 }
-
-abbrev pub tagsOf : List Choice → List ℕ
-tagsOf [] = []
-tagsOf (c ∷ cs) = c .tag ∷ tagsOf cs
 
 offs-at : (cs : List Choice) (j : ℕ) → getD (offs cs) j 0 ≡ getD cs j noChoice .offset
 offs-at [] j = refl

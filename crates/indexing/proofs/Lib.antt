@@ -11,6 +11,7 @@ pub mod Pointers
 pub mod Built
 pub mod Order
 pub mod Grown
+pub mod Stored
 pub mod BridgeLists
 pub mod BridgeColumns
 pub mod BridgeGroups

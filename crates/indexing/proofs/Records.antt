@@ -5,13 +5,15 @@ use mathlib.Core.List.{List, [], _∷_, _++_, map, append-assoc}
 use mathlib.Core.Option.{some}
 use Prim.Native.Nat.{ℕ, suc, _+_, _<_}
 use native.Mathlib.Omega.{arith}
-use lib.ListN.{length, set, length-set, take, drop}
+use lib.ListN.{length, set, length-set, length-append, take, drop}
 use lib.Seq.{split-at, set-split, length-take-le}
 use Rattle.records.specs.declared.Rec.{Rec}
 use Rattle.indexing.proofs.Expand.{opens, outcome, grown, expand-is}
-use Rattle.indexing.proofs.Tables.{front, back, split-tables, swap-tables}
+use Rattle.indexing.proofs.Size.{length-records, length-tables}
+use Rattle.indexing.proofs.Tables.{back, split-tables, swap-tables}
 use Rattle.indexing.specs.Build.{Program}
 use Rattle.indexing.specs.Expand.{added, expand}
+use Rattle.indexing.specs.Expanding.{front, placeOf}
 use Rattle.indexing.specs.Lines.{Table, onDemand, Line, Index, noLine, lineAt, find, tableRecs, tablesRecs, choiceRec, lineRec, records}
 
 pub tables-append : (ts us : List Table) → tablesRecs (ts ++ us) ≡ tablesRecs ts ++ tablesRecs us
@@ -27,6 +29,17 @@ records-append m n (x ∷ xs) ys =
 -- the records before the table for a of line l, and those behind it
 abbrev pub before : ℕ → Index → ℕ → ℕ → List Rec
 before m idx l a = records m 0 (take l idx) ++ (lineRec m l ∷ tablesRecs (front a (lineAt idx l .tables)))
+
+-- so many are before it
+pub before-place : (m : ℕ) (idx : Index) (l a : ℕ) → length (before m idx l a) ≡ placeOf idx l a
+unfolding placeOf
+before-place m idx l a =
+    omega (
+      arith,
+      length-append (records m 0 (take l idx)) (lineRec m l ∷ tablesRecs (front a (lineAt idx l .tables))),
+      length-records m 0 (take l idx),
+      length-tables (front a (lineAt idx l .tables)),
+    )
 
 abbrev pub behind : ℕ → Index → ℕ → ℕ → List Rec
 behind m idx l a = tablesRecs (back a (lineAt idx l .tables)) ++ (map choiceRec (lineAt idx l .choices) ++ records m (suc l) (drop (suc l) idx))

@@ -9,6 +9,7 @@ use Prim.Native.Nat.{ℕ}
 use native.Mathlib.Omega.{arith}
 use lib.Dec.{eqb}
 use Rattle.indexing.proofs.Tests.{eqb-same, eqb-true, eqb-other}
+use Rattle.indexing.specs.Expanding.{front}
 use Rattle.indexing.specs.Lines.{Table, argOf, find, swap}
 
 -- the table found is for that argument
@@ -36,11 +37,7 @@ find-swap-same a u t (v ∷ ts) e h = go (eqb (argOf v) a) refl (find-swap-same 
     go true y ih = rw (e, eqb-same a)
     go false y ih = rw y (ih (rw y at h))
 
--- the tables before the one for a, and those behind it
-abbrev pub front : ℕ → List Table → List Table
-front a [] = []
-front a (t ∷ ts) = cond (eqb (argOf t) a) [] (t ∷ front a ts)
-
+-- the tables behind the one for a
 abbrev pub back : ℕ → List Table → List Table
 back a [] = []
 back a (t ∷ ts) = cond (eqb (argOf t) a) ts (back a ts)

@@ -1,16 +1,32 @@
--- An expansion by the columns of a line's clauses: what the contract of the expansion on the buffer cites.
+-- An expansion by the columns of a line's clauses, and where the on-demand table stands: what the contracts of the expansion on the buffer cite.
 -- proofs/BridgeExpand shows that these are the records of section 4's expansion (specs/Expand). For contracts of inner functions.
 -- Assumes nothing.
 use Prim.Native.Nat.{ℕ, _+_}
 use mathlib.Core.Path.{_≡_}
 use mathlib.Core.Bool.{Bool, cond}
-use mathlib.Core.List.{List, []}
-use lib.ListN.{length, replicate}
+use mathlib.Core.List.{List, [], _∷_}
+use lib.Dec.{eqb}
+use lib.ListN.{length, replicate, take}
 use Rattle.records.specs.declared.Rec.{Rec}
 use Rattle.indexing_iter.specs.declared.OptArgIndexKey.{OptArgIndexKey as Key}
 use Rattle.indexing_iter.specs.declared.Settings.{Settings}
+use Rattle.indexing.specs.Lines.{Table, Choice, Index, lineAt, argOf, tablesSize, size}
 use Rattle.indexing.specs.Upto.{anyTo}
 use Rattle.indexing.specs.Columns.{headsTo, bitsTo, leadersTo, opensTo, sizesTo, linesTo, listLines, openMember, deadRecs, switchRecs, newLinesRecs}
+
+-- the tags of a line's choices, without offsets
+abbrev pub tagsOf : List Choice → List ℕ
+tagsOf [] = []
+tagsOf (c ∷ cs) = c .tag ∷ tagsOf cs
+
+-- the tables before the one for argument a
+abbrev pub front : ℕ → List Table → List Table
+front a [] = []
+front a (t ∷ ts) = cond (eqb (argOf t) a) [] (t ∷ front a ts)
+
+-- the place of line l's table for argument a among the records: behind the lines before, the line's own record and the tables before that one
+unfoldable pub placeOf : Index → ℕ → ℕ → ℕ
+placeOf idx l a = size (take l idx) + (1 + tablesSize (front a (lineAt idx l .tables)))
 
 -- the columns of all clauses os at argument a, K giving the key of an offset at an argument
 abbrev pub headsAt : (ℕ → ℕ → Key) → List ℕ → ℕ → List ℕ

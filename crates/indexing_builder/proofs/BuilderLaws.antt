@@ -3,19 +3,18 @@
 use mathlib.Core.Path.{_≡_, refl, sym, ap, ap₂, _∙_, subst}
 use mathlib.Core.Bool.{Bool, true, false, cond}
 use mathlib.Core.List.{List, [], _∷_, _++_}
-use Prim.Native.Nat.{ℕ, suc, _+_, _-_, _*_, _/_, _≤_, _<_}
-use native.Mathlib.Nat.{min-eq-left, min-eq-right, min-le-left}
+use Prim.Native.Nat.{ℕ, suc, _+_, _-_, _≤_, _<_}
 use native.Mathlib.Omega.{arith}
 use borrow.Author.Tests.{lt-ltb, le-ltb, ltb-false}
 use lib.Dec.{ltb}
 use lib.ListN.{length, getD, take, drop, replicate, length-map, getD-replicate}
 use lib.Seq.{take-at, drop-append-add, drop-drop}
 use Rattle.records.specs.declared.Rec.{Rec}
-use Rattle.records.specs.Records.{recordsOf, encode, Wrote}
+use Rattle.records.specs.Records.{recordsOf, Wrote}
 use Rattle.records.specs.Moves.{written, spliced}
-use Rattle.records.proofs.Laws.{length-recordsOf, wrote-is, wrote-then}
+use Rattle.records.proofs.Laws.{wrote-is, wrote-then}
 use Rattle.records.proofs.Grown.{written-front}
-use Rattle.records.proofs.Whole.{Bytes, wrote-front}
+use Rattle.records.proofs.Whole.{Bytes}
 use Rattle.indexing_iter.specs.declared.OptArgIndexKey.{OptArgIndexKey as Key}
 use Rattle.indexing_iter.specs.declared.Settings.{Settings}
 use Rattle.indexing_iter.specs.declared.Checked.{Checked}
@@ -35,28 +34,12 @@ use Rattle.indexing.specs.Builder.{capacityOf, stored, builtBy, indexOf, buildC
 use Rattle.indexing_builder.specs.Answer.{builtOf}
 use Rattle.indexing_builder.specs.Building.{answerBy, Builds, Building}
 use Rattle.indexing.proofs.Built.{keyed-by-checks}
-use Rattle.indexing.proofs.Size.{length-records}
+use Rattle.indexing.proofs.Stored.{capacity-within, stored-wrote}
 use Rattle.index_writer.proofs.ColumnLaws.{offsets-known}
 use Rattle.indexing.proofs.BridgeColumns.{InRange}
 use Rattle.indexing.proofs.BridgeLines.{Tagged, tagged-initial}
 use Rattle.indexing.proofs.BridgeExpand.{built-size, built-spliced}
 use Rattle.indexing_builder.proofs.ExpansionLaws.{switch-some, known-ranged}
-
--- ---- the capacity
-
-pub capacity-few : (b : List ℕ) (n : ℕ) → n ≡ length (recordsOf b) → n ≤ 65535 → n ≡ capacityOf b
-capacity-few b n e h =
-    let f : n ≡ length b / 16 = e ∙ length-recordsOf b in
-    let k : length b / 16 ≤ 65535 = omega arith in
-    f ∙ sym (min-eq-left k)
-
-pub capacity-many : (b : List ℕ) (n : ℕ) → n ≡ length (recordsOf b) → 65535 < n → 65535 ≡ capacityOf b
-capacity-many b n e h =
-    let k : 65535 ≤ length b / 16 = omega (arith, length-recordsOf b) in
-    sym (min-eq-right k)
-
-pub capacity-within : (b : List ℕ) → capacityOf b ≤ length (recordsOf b)
-capacity-within b = omega (arith, length-recordsOf b, min-le-left (length b / 16) 65535)
 
 -- ---- answers
 
@@ -154,21 +137,18 @@ module _ (code starts : List ℕ) (S : Settings) (c : ℕ) (passed : checkBuild 
   -- what the builder leaves of the buffer
   left : (b b′ : List ℕ) → size idx ≤ length (recordsOf b) → Bytes b → Bytes b′
       → Wrote b b′ (spliced (written (recordsOf b) 0 seeds) 1 (length seeds) switch lines) → b′ ≡ stored (S .dynamic) idx b
-  unfolding stored
   left b b′ room h h′ w =
       let R : List Rec = recordsOf b in
       let rs : List Rec = records mode 0 idx in
-      let n : length rs ≡ size idx = length-records mode 0 idx in
       let some : 1 ≤ length switch = switch-some (leadersAt K all c) (headsAt K all c) (bitsAt K all c) all (S .dynamic) c 1 in
       let front : written R 0 seeds ≡ seeds ++ drop (length seeds) R = written-front R seeds in
       let taken : take (length seeds) (written R 0 seeds) ≡ seeds =
           ap (take (length seeds)) front ∙ take-at seeds (drop (length seeds) R) (length seeds) refl in
       let rest : drop (size idx) (written R 0 seeds) ≡ drop (size idx) R =
           ap (drop (size idx)) front ∙ drop-over seeds R (size idx) (omega (arith, size-is)) in
-      let e : spliced (written R 0 seeds) 1 (length seeds) switch lines ≡ rs ++ drop (length rs) R =
-          built-spliced S K all c small above below ranged keyed zs own (written R 0 seeds) taken
-          ∙ ap (λ (x : List Rec). rs ++ x) (rest ∙ ap (λ (k : ℕ). drop k R) (sym n)) in
-      wrote-front b b′ rs h h′ (omega arith) (wrote-is e w) ∙ ap (λ (k : ℕ). encode rs ++ drop (16 * k) b) n
+      let e : spliced (written R 0 seeds) 1 (length seeds) switch lines ≡ rs ++ drop (size idx) R =
+          built-spliced S K all c small above below ranged keyed zs own (written R 0 seeds) taken ∙ ap (λ (x : List Rec). rs ++ x) rest in
+      stored-wrote (S .dynamic) idx b b′ h h′ room (wrote-is e w)
 
   built : (b b′ : List ℕ) (r : BuildAnswer) → Bytes b → Bytes b′ → Building r (S .skip) b b′ seeds switch lines
       → builtOf r b′ ≡ buildCall classOf code starts S c b

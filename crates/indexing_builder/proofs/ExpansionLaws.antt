@@ -1,17 +1,19 @@
 -- The expansion by the columns that the code fills: its answer, its block and its new lines.
 -- Assumes nothing.
-use mathlib.Core.Path.{_≡_, ap, ap₂, _∙_}
-use mathlib.Core.Bool.{Bool, true, false}
-use mathlib.Core.List.{List, [], _++_}
-use mathlib.Core.Option.{some}
-use Prim.Native.Nat.{ℕ, _+_, _-_, _≤_, _<_}
+use mathlib.Core.Path.{_≡_, refl, sym, ap, ap₂, _∙_, subst}
+use mathlib.Core.Bool.{Bool, true, false, cond}
+use mathlib.Core.List.{List, [], _∷_, _++_}
+use Prim.Native.Nat.{ℕ, suc, _+_, _-_, _≤_, _<_}
 use native.Mathlib.Omega.{arith}
-use borrow.Author.Tests.{le-leb, lt-leb}
-use lib.ListN.{length, getD, take, drop, length-replicate}
+use borrow.Author.Tests.{le-leb, lt-leb, leb-true}
+use lib.Dec.{leb}
+use lib.ListN.{length, getD, take, drop, length-replicate, length-append}
+use lib.Seq.{length-take-le}
 use Rattle.records.specs.declared.Rec.{Rec}
 use Rattle.records.specs.Records.{recordsOf, Wrote}
 use Rattle.records.specs.Moves.{spliced}
 use Rattle.records.proofs.Laws.{wrote-is}
+use Rattle.records.proofs.Whole.{Bytes}
 use Rattle.indexing_iter.specs.declared.OptArgIndexKey.{OptArgIndexKey as Key}
 use Rattle.indexing_iter.specs.declared.OptArgIndexKey.the-variants.{None, Literal, Structure, List as ListKey}
 use Rattle.indexing_iter.specs.declared.Settings.{Settings}
@@ -21,8 +23,9 @@ use Rattle.indexing_iter.specs.Classes.{classOf}
 use Rattle.indexing_iter.specs.Clauses.{keyOf}
 use Rattle.indexing_iter.proofs.SameKeys.{KeyInRange}
 use Rattle.indexing_iter.proofs.KeyLaws.{key-of-range, code-ok}
-use Rattle.indexing.specs.Lines.{onDemand, Index, lineAt, offs, find, records, modeOf, size}
-use Rattle.indexing.specs.Build.{programOf}
+use Rattle.indexing.specs.Lines.{onDemand, Choice, Index, lineAt, offs, tableRecs, records, modeOf, size}
+use Rattle.indexing.specs.Build.{Program, programOf}
+use Rattle.indexing.specs.Builder.{capacityOf}
 use Rattle.indexing.specs.Expand.{expand}
 use Rattle.index_writer.specs.Choices.{AllKnown}
 use Rattle.indexing_builder.specs.declared.expansion.OnDemand.{OnDemand}
@@ -30,10 +33,12 @@ use Rattle.indexing_builder.specs.declared.expansion.Expanded.{Expanded}
 use Rattle.indexing_builder.specs.declared.expansion.Expanded.the-variants.{Stored, NoRoom}
 use Rattle.indexing.specs.Upto.{anyTo}
 use Rattle.indexing.specs.Columns.{openMember, deadRecs, switchRecs, newLinesRecs}
-use Rattle.indexing.specs.Expanding.{opensOf, zerosOf, ColumnsOf, blockRecs, moreRecs, linesMade, moreLines}
-use Rattle.indexing_builder.specs.Expansion.{answerFor, Expansion}
-use Rattle.indexing.proofs.Records.{before}
-use Rattle.indexing.proofs.BridgeLines.{Tagged}
+use Rattle.indexing.specs.Expanding.{tagsOf, opensOf, zerosOf, ColumnsOf, blockRecs, moreRecs, linesMade, moreLines}
+use Rattle.indexing_builder.specs.Expansion.{indexOn, Demanded, expandedOf, outcomeBy, expandCall, answerFor, Expands, Expandable, Expansion, LineExpansion}
+use Rattle.indexing.proofs.Records.{before, before-place, behind, records-old}
+use Rattle.indexing.proofs.Size.{length-records, lines-size}
+use Rattle.indexing.proofs.Stored.{capacity-within, capacity-small, stored-wrote}
+use Rattle.indexing.proofs.BridgeLines.{Tagged, tagged-own}
 use Rattle.indexing.proofs.BridgeExpand.{expand-size, expand-lines, expand-spliced}
 use Rattle.indexing.proofs.BridgeColumns.{InRange}
 
@@ -124,49 +129,116 @@ pub known-ranged : (code starts : List ℕ) (arity : ℕ) → checkCode classOf 
 known-ranged code starts arity e os k a i h =
     key-ranged (keyOf classOf (recordsOf code) starts (getD os i 0) a) (key-of-range classOf arity code starts (getD os i 0) a (k i h) e)
 
--- in checked code, of the on-demand table for argument a in line l, whose choices have known offsets and the tags given
-module _ (code starts : List ℕ) (S : Settings) (checked : checkCode classOf (S .arity) code starts ≡ Passed) (idx : Index) (l a c : ℕ) (h : l < length idx)
-    (dem : find a (lineAt idx l .tables) ≡ some (onDemand c)) (first : 1 ≤ a) (last : a ≤ S .arity)
-    (known : AllKnown starts (offs (lineAt idx l .choices))) (tags : List ℕ) (own : Tagged S (lineAt idx l .choices) tags) where
+as-many : (cs : List Choice) → length (tagsOf cs) ≡ length (offs cs)
+as-many [] = refl
+as-many (c ∷ cs) = ap suc (as-many cs)
+
+-- in checked code, of the on-demand table t in an index that the buffer b begins with
+module _ {t : OnDemand} {S : Settings} {code starts b os tags : List ℕ} (E : Demanded t S code starts b os tags) where
   abbrev K : ℕ → ℕ → Key
   K = keyOf classOf (recordsOf code) starts
 
-  abbrev os : List ℕ
-  os = offs (lineAt idx l .choices)
+  abbrev P : Program
+  P = programOf classOf S (recordsOf code) starts
+
+  abbrev idx : Index
+  idx = indexOn t b
+
+  abbrev its : List Choice
+  its = lineAt idx (t .line) .choices
 
   abbrev mode : ℕ
   mode = modeOf (S .dynamic)
 
   abbrev after : Index
-  after = expand (programOf classOf S (recordsOf code) starts) idx l a
+  after = expand P idx (t .line) (t .arg)
+
+  -- the block and the new lines of the clauses xs, in an index of n lines
+  abbrev block : List ℕ → ℕ → List Rec
+  block xs n = blockRecs S K xs (t .arg) (n - t .line)
+
+  abbrev more : List ℕ → ℕ → List Rec
+  more xs n = moreRecs S K xs tags (t .arg) n
 
   small : S .arity ≤ 32
-  small = code-ok classOf (S .arity) code starts checked .arity-to
+  small = code-ok classOf (S .arity) code starts (E .checked) .arity-to
 
-  ranged : (i : ℕ) → i < length os → InRange (K (getD os i 0) a)
-  ranged = known-ranged code starts (S .arity) checked os known a
+  here : t .line < length idx
+  here = omega (arith, E .own, E .lines-are)
 
-  pub expansion-size : size idx + length (blockRecs S K os a (length idx - l)) + length (moreRecs S K os tags a (length idx)) - 1 ≡ size after
-  expansion-size = expand-size S K idx l a c h dem small first last ranged tags own
+  count-is : t .count ≡ size idx
+  count-is =
+      let h : t .count ≤ length (recordsOf b) = omega (arith, E .fits, E .capacity-is, capacity-within b) in
+      sym (length-take-le (t .count) (recordsOf b) h) ∙ ap length (E .records-are) ∙ length-records mode 0 idx
 
-  pub expansion-lines : length idx + moreLines S K os a ≡ length after
-  expansion-lines = expand-lines S K idx l a c h dem small first last ranged tags own
+  place-is : t .at ≡ length (before mode idx (t .line) (t .arg))
+  place-is = E .place ∙ sym (before-place mode idx (t .line) (t .arg))
+
+  at-count : t .at < t .count
+  at-count = omega (
+    arith,
+    place-is,
+    count-is,
+    length-records mode 0 idx,
+    ap length (records-old P mode idx (t .line) (t .arg) (t .arg) here (E .demand)),
+    length-append (before mode idx (t .line) (t .arg)) (tableRecs (onDemand (t .arg)) ++ behind mode idx (t .line) (t .arg)),
+  )
+
+  -- what the functions that write it ask
+  pub expandable : Expandable t S code starts b os tags
+  expandable = record {
+    checked = E .checked;
+    known = E .known;
+    few = E .few;
+    tagged = ap length (E .tags-are) ∙ as-many its ∙ ap length (sym (E .offsets));
+    placed = record {
+      first = E .first;
+      last = E .last;
+      own = E .own;
+      few-lines = omega (arith, E .lines-are, lines-size idx, count-is, E .fits, E .capacity-is, capacity-small b);
+      here = at-count;
+      fits = E .fits;
+      within = omega (arith, E .capacity-is, capacity-within b);
+      few-records = omega (arith, E .capacity-is, capacity-small b);
+    };
+  }
+
+  ranged : (i : ℕ) → i < length (offs its) → InRange (K (getD (offs its) i 0) (t .arg))
+  ranged = known-ranged code starts (S .arity) (E .checked) (offs its) (subst (AllKnown starts) (E .offsets) (E .known)) (t .arg)
+
+  own-tags : Tagged S its tags
+  own-tags = subst (Tagged S its) (sym (E .tags-are)) (tagged-own S its)
 
   -- the answer is by the size of the expanded index
-  pub expansion-answer : (capacity : ℕ) (r : Expanded)
-      → r ≡ answerFor capacity (size idx + length (blockRecs S K os a (length idx - l)) + length (moreRecs S K os tags a (length idx)) - 1)
-        (length idx + moreLines S K os a)
-      → r ≡ answerFor capacity (size after) (length after)
-  expansion-answer capacity r e = e ∙ ap₂ (answerFor capacity) expansion-size expansion-lines
+  answer-is : answerFor (t .capacity) (t .count + length (block os (t .lines)) + length (more os (t .lines)) - 1) (t .lines + moreLines S K os (t .arg))
+      ≡ answerFor (capacityOf b) (size after) (length after)
+  answer-is =
+      (λ i. answerFor (E .capacity-is i) (count-is i + length (block (E .offsets i) (E .lines-are i)) + length (more (E .offsets i) (E .lines-are i)) - 1)
+        (E .lines-are i + moreLines S K (E .offsets i) (t .arg)))
+      ∙ ap₂ (answerFor (capacityOf b))
+        (expand-size S K idx (t .line) (t .arg) (t .arg) here (E .demand) small (E .first) (E .last) ranged tags own-tags)
+        (expand-lines S K idx (t .line) (t .arg) (t .arg) here (E .demand) small (E .first) (E .last) ranged tags own-tags)
 
-  -- a buffer that begins with the index begins with the expanded one then, and is as it was behind it
-  pub expansion-stored : (b b′ : List ℕ) (p n lines : ℕ) → p ≡ length (before mode idx l a) → n ≡ size idx → lines ≡ length idx
-      → take (size idx) (recordsOf b) ≡ records mode 0 idx
-      → Wrote b b′ (spliced (recordsOf b) p n (blockRecs S K os a (lines - l)) (moreRecs S K os tags a lines))
-      → Wrote b b′ (records mode 0 after ++ drop (size after) (recordsOf b))
-  expansion-stored b b′ p n lines e f g q w =
-      wrote-is
-      (ap₂ (λ (x y : ℕ). spliced (recordsOf b) x y (blockRecs S K os a (lines - l)) (moreRecs S K os tags a lines)) e f
-      ∙ ap (λ (x : ℕ). spliced (recordsOf b) (length (before mode idx l a)) (size idx) (blockRecs S K os a (x - l)) (moreRecs S K os tags a x)) g
-      ∙ expand-spliced S K idx l a c h dem small first last ranged tags own (recordsOf b) q)
-      w
+  -- the buffer begins with the expanded index, and is as it was behind it
+  spliced-is : spliced (recordsOf b) (t .at) (t .count) (block os (t .lines)) (more os (t .lines)) ≡ records mode 0 after ++ drop (size after) (recordsOf b)
+  spliced-is =
+      (λ i. spliced (recordsOf b) (place-is i) (count-is i) (block (E .offsets i) (E .lines-are i)) (more (E .offsets i) (E .lines-are i)))
+      ∙ expand-spliced S K idx (t .line) (t .arg) (t .arg) here (E .demand) small (E .first) (E .last) ranged tags own-tags (recordsOf b)
+        (ap (λ (n : ℕ). take n (recordsOf b)) (sym count-is) ∙ E .records-are)
+
+  pub expansion-is : (b′ : List ℕ) (r : Expanded) → Bytes b → Bytes b′ → LineExpansion r t S code starts b b′ os tags
+      → expandedOf r b′ ≡ expandCall t S code starts b
+  unfolding expandCall
+  expansion-is b′ r h h′ x = go (leb (size after) (capacityOf b)) refl (x .answer ∙ answer-is)
+    where
+      go : (q : Bool) → leb (size after) (capacityOf b) ≡ q → r ≡ cond q (Stored (size after) (length after)) NoRoom
+          → expandedOf r b′ ≡ outcomeBy (S .dynamic) (cond q (record { storing = true; index = after }) (record { storing = false; index = idx })) b
+      go true q f =
+          let room : size after ≤ length (recordsOf b) = omega (arith, leb-true (size after) (capacityOf b) q, capacity-within b) in
+          let w : Wrote b b′ (spliced (recordsOf b) (t .at) (t .count) (block os (t .lines)) (more os (t .lines))) =
+              subst (λ (y : Expanded). Expands y b b′ (t .at) (t .count) (block os (t .lines)) (more os (t .lines))) f (x .leaves) in
+          ap (λ (y : Expanded). expandedOf y b′) f
+          ∙ ap (expandedOf (Stored (size after) (length after))) (stored-wrote (S .dynamic) after b b′ h h′ room (wrote-is spliced-is w))
+      go false q f =
+          ap (λ (y : Expanded). expandedOf y b′) f
+          ∙ ap (expandedOf NoRoom) (subst (λ (y : Expanded). Expands y b b′ (t .at) (t .count) (block os (t .lines)) (more os (t .lines))) f (x .leaves))

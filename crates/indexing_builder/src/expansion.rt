@@ -14,7 +14,7 @@ ghost use Rattle.records.specs.Records.{recordsOf, Wrote};
 ghost use Rattle.records.specs.Moves.{spliced};
 ghost use Rattle.indexing.specs.Columns.{sizesTo, deadRecs, switchRecs, newLinesRecs};
 ghost use Rattle.indexing.specs.Expanding.{linesMade};
-ghost use Rattle.indexing_builder.specs.Expansion.{Placed, Expandable, SwitchColumns, Expansion, LineExpansion};
+ghost use Rattle.indexing_builder.specs.Expansion.{Demanded, expandedOf, expandCall, Placed, Expandable, SwitchColumns, Expansion, LineExpansion};
 
 // An on-demand table, and where it stands: for argument arg, its record at place at of count records, in line number line of lines, in an
 // index that may grow to capacity records.
@@ -157,8 +157,8 @@ fn expand_line(
 // Expands the table t of the line whose offsets and tags are given: it becomes the switch on its argument or, where some clause is open
 // there, dead. The size is known before anything is written; where it exceeds the capacity nothing is.
 pub fn indices_of_arg(code: &[u8], starts: &[u32], settings: Settings, index: &mut [u8], t: OnDemand, offs: &[u32], tags: &[u8]) -> Expanded
-    requires { ⌜ Expandable t settings (now code) (now starts) (now index) (now offs) (now tags) ⌝ }
-    ensures { λ r. ⌜ LineExpansion r t settings (now (code .entry)) (now (starts .entry)) (now (index .entry)) (now (index .exit)) (now (offs .entry)) (now (tags .entry)) ⌝ }
+    requires { ⌜ Demanded t settings (now code) (now starts) (now index) (now offs) (now tags) ⌝ }
+    ensures { λ r. ⌜ expandedOf r (now (index .exit)) ≡ expandCall t settings (now (code .entry)) (now (starts .entry)) (now (index .entry)) ⌝ }
 {
     let mut leaders = [0u32; 1024];
     let mut heads = [0u32; 1024];

@@ -13,10 +13,10 @@ use Rattle.indexing.proofs.Expand.{opens, outcome, grown, expand-is, length-exp
 use Rattle.indexing.proofs.Order.{Args}
 use Rattle.indexing.proofs.Records.{tables-append, records-append, before}
 use Rattle.indexing.proofs.Reading.{FitTable, FitLine}
-use Rattle.indexing.proofs.Tables.{front}
 use Rattle.indexing.proofs.Tests.{eqb-same, eqb-other}
 use Rattle.indexing.specs.Build.{Program}
 use Rattle.indexing.specs.Expand.{added, expand}
+use Rattle.indexing.specs.Expanding.{front}
 use Rattle.indexing.specs.Lines.{Table, onDemand, argOf, Line, Index, noLine, lineAt, find, swap}
 use Rattle.indexing.specs.Lines.{tablesRecs, lineRec, records}
 use Rattle.indexing_scan.specs.Places.{At}

@@ -30,8 +30,7 @@ use Rattle.indexing_walk.specs.declared.Walking.{Walking}
 use Rattle.indexing_walk.specs.Answers.{toldBy}
 use Rattle.indexing_walk.specs.Walking.{indexIn, Stands, Kept, Comes, restOf, Ends}
 use Rattle.indexing_walk.proofs.WalkLaws.{comes-start}
-use Rattle.indexing_builder.proofs.BuilderLaws.{capacity-within}
-use Rattle.indexing_walk.proofs.StandLaws.{capacity-small}
+use Rattle.indexing.proofs.Stored.{capacity-within, capacity-small}
 
 -- ---- a list copied
 

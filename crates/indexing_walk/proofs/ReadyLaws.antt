@@ -11,9 +11,10 @@ use borrow.Author.Tests.{eqb-true, ne-eqb}
 use Rattle.records.specs.Records.{recordsOf}
 use Rattle.indexing_iter.specs.declared.Settings.{Settings}
 use Rattle.indexing.proofs.Size.{lines-size}
+use Rattle.indexing.proofs.Stored.{capacity-small}
 use Rattle.indexing_scan.specs.Places.{isTable}
 use Rattle.indexing_walk.specs.declared.Walking.{Walking}
-use Rattle.indexing_walk.proofs.StandLaws.{Ready, here, within, capacity-small, size-is, arg-range, at-count}
+use Rattle.indexing_walk.proofs.StandLaws.{Ready, here, within, size-is, arg-range, at-count}
 use Rattle.indexing_walk.proofs.TurnLaws.{AtTable, some-table}
 use Rattle.indexing_walk.proofs.LineLaws.{arity-32}
 

@@ -17,10 +17,10 @@ use Rattle.indexing_iter.specs.Classes.{classOf}
 use Rattle.indexing_iter.specs.Clauses.{known}
 use Rattle.indexing.proofs.Order.{Orderly}
 use Rattle.indexing.proofs.Size.{length-records}
+use Rattle.indexing.proofs.Stored.{capacity-within}
 use Rattle.indexing.specs.Build.{Program, programOf}
 use Rattle.indexing.specs.Builder.{capacityOf}
 use Rattle.indexing.specs.Lines.{Choice, Table, onDemand, argOf, Index, lineAt, size, modeOf}
-use Rattle.indexing_builder.proofs.BuilderLaws.{capacity-within}
 use Rattle.well_formed.proofs.Sound.{args-true}
 use Rattle.well_formed.proofs.WellFormed.{args-of, well-orderly}
 use Rattle.indexing.specs.Expand.{State}
@@ -33,9 +33,6 @@ use Rattle.indexing_walk.specs.declared.Walking.{Walking}
 use Rattle.indexing_walk.specs.Walking.{indexIn, Stands, Comes, restOf, turnsLeft, Went}
 use Rattle.indexing_walk.proofs.WalkLaws.{rest, turns}
 use Rattle.indexing_walk.proofs.WalkLaws as Laws
-
-pub capacity-small : (b : List ℕ) → capacityOf b ≤ 65535
-capacity-small b = omega arith
 
 -- a walk that stands in a buffer, in checked code
 pub record Ready (code starts : List ℕ) (S : Settings) (b : List ℕ) (w : Walking) : Type 0 where

@@ -1,32 +1,34 @@
 -- A turn at an on-demand table while expansions are stored: the expanded index is in the buffer, and the walk looks again at that place;
 -- or it does not fit, and from here on nothing is stored.
 -- Assumes nothing.
-use mathlib.Core.Path.{_≡_, refl, sym, ap, ap₂, _∙_, subst}
+use mathlib.Core.Path.{_≡_, refl, sym, ap, _∙_, subst}
 use mathlib.Core.Bool.{Bool, true, false, cond}
-use mathlib.Core.List.{List, [], _∷_, _++_}
+use mathlib.Core.List.{List, [], _∷_}
 use mathlib.Core.Option.{some}
-use Prim.Native.Nat.{ℕ, _+_, _-_, _*_, _/_, _≤_, _<_, min}
+use Prim.Native.Nat.{ℕ, _+_, _-_, _≤_, _<_}
 use native.Mathlib.Omega.{arith}
 use lib.Dec.{eqb}
-use lib.ListN.{length, getD, take, drop}
-use lib.Seq.{take-at, drop-append-add, drop-drop}
+use lib.ListN.{length, getD, take}
 use Rattle.records.specs.declared.Rec.{Rec}
-use Rattle.records.specs.Records.{recordsOf, zeroRec, encode, Wrote}
-use Rattle.records.proofs.Laws.{length-encode}
-use Rattle.records.proofs.Whole.{Bytes, wrote-front}
+use Rattle.records.specs.Records.{recordsOf, zeroRec, AllFit}
+use Rattle.records.proofs.Fitting.{fit-recordsOf}
+use Rattle.records.proofs.Whole.{Bytes}
 use Rattle.indexing_iter.specs.declared.Settings.{Settings}
 use Rattle.indexing_iter.specs.Classes.{classOf}
 use Rattle.indexing_iter.specs.Clauses.{known}
 use Rattle.indexing_iter.specs.Keys.{isOpen}
-use Rattle.indexing_iter.proofs.KeyLaws.{known-small}
+use Rattle.indexing_iter.proofs.KeyLaws.{code-ok, known-small}
 use Rattle.indexing.proofs.Expand.{opens, outcome, new-table, length-expand, expanded-arg}
 use Rattle.indexing.proofs.Grown.{grown-same, grown-more, grown-size}
-use Rattle.indexing.proofs.Size.{length-records}
+use Rattle.indexing.proofs.Lists.{All}
+use Rattle.indexing.proofs.Size.{lines-size}
+use Rattle.indexing.proofs.Stored.{capacity-small, stored-length, stored-capacity, stored-records, stored-over}
 use Rattle.indexing.specs.Builder.{capacityOf, stored}
 use Rattle.indexing.specs.Expand.{expanded, expand}
 use Rattle.indexing.specs.Lines.{Table, onDemand, argOf, Index, lineAt, find, size, modeOf, records}
 use Rattle.indexing.specs.Reading.{parse}
 use Rattle.well_formed.proofs.CodeKeys.{code-keys}
+use Rattle.well_formed.proofs.Fields.{code-narrow, fit-take, NarrowLine, narrow-expand, index-narrow, fit-index}
 use Rattle.well_formed.proofs.Sound.{args-true, ok-parse, ok-expand}
 use Rattle.well_formed.proofs.WellFormed.{well-orderly}
 use Rattle.well_formed.specs.WellFormed.{indexOk}
@@ -39,20 +41,7 @@ use Rattle.indexing_scan.specs.Walk.{line, Result, walkFrom}
 use Rattle.indexing_walk.specs.declared.Walking.{Walking}
 use Rattle.indexing_walk.specs.Walking.{indexIn, Stands, Kept, Comes, restOf, turnsLeft, Went}
 use Rattle.indexing_walk.proofs.WalkLaws.{rest, found, at-left, expands, refuses, not-demand}
-use Rattle.indexing_builder.proofs.BuilderLaws.{capacity-within}
 use Rattle.indexing_walk.proofs.StandLaws.{Ready, program, here, choices, orderly, AtDemand, left, left-it, range, placed}
-
--- an index stored over a smaller one
-pub stored-over : (d : Bool) (x y : Index) (b₀ b : List ℕ) → size x ≤ size y → b ≡ stored d x b₀ → stored d y b ≡ stored d y b₀
-unfolding stored
-stored-over d x y b₀ b h e =
-    let front : List ℕ = encode (records (modeOf d) 0 x) in
-    let n : length front ≡ 16 * size x = omega (arith, length-encode (records (modeOf d) 0 x), length-records (modeOf d) 0 x) in
-    let k : 16 * size y ≡ length front + (16 * size y - 16 * size x) = omega arith in
-    let m : 16 * size x + (16 * size y - 16 * size x) ≡ 16 * size y = omega arith in
-    ap (λ (z : List ℕ). encode (records (modeOf d) 0 y) ++ z)
-    (ap₂ drop k e ∙ drop-append-add front (drop (16 * size x) b₀) (16 * size y - 16 * size x)
-    ∙ drop-drop (16 * size y - 16 * size x) (16 * size x) b₀ ∙ ap (λ (z : ℕ). drop z b₀) m)
 
 module _ {code starts : List ℕ} {S : Settings} {b : List ℕ} {w : Walking} {a : ℕ} (due : AtDemand code starts S b w a) where
   abbrev ready : Ready code starts S b w
@@ -73,8 +62,11 @@ module _ {code starts : List ℕ} {S : Settings} {b : List ℕ} {w : Walking} {a
   sound : indexOk (S .arity) (S .dynamic) (known starts) after ≡ true
   sound = ok-expand (program ready) (known starts) (λ o c. code-keys classOf (S .arity) code starts o c (ready .checked)) (here ready) (w .line) a a (st .place .line) dem (st .sound)
 
+  known-31 : (o : ℕ) → known starts o ≡ true → o < 0x8000_0000
+  known-31 o k = omega (arith, known-small classOf (S .arity) code starts o k (ready .checked))
+
   parsed : parse (records mode 0 after) ≡ after
-  parsed = ok-parse (program ready) (known starts) (λ o k. omega (arith, known-small classOf (S .arity) code starts o k (ready .checked))) after sound
+  parsed = ok-parse (program ready) (known starts) known-31 after sound
 
   lines-more : w .line < length after
   lines-more = omega (arith, st .place .line, length-expand (program ready) (here ready) (w .line) a)
@@ -94,20 +86,32 @@ module _ {code starts : List ℕ} {S : Settings} {b : List ℕ} {w : Walking} {a
       go [] = refl
       go (o ∷ os) = refl
 
-  -- it fits
-  module _ (b′ : List ℕ) (bytes : Bytes b) (bytes′ : Bytes b′) (long : length b′ ≡ length b) (fits : size after ≤ capacityOf b)
-      (wrote : Wrote b b′ (records mode 0 after ++ drop (size after) (recordsOf b))) where
+  -- it fits, and is stored
+  module _ (own : Bytes code) (bytes : Bytes b) (fits : size after ≤ capacityOf b) where
     abbrev pub stored-at : Walking
     stored-at = record { line = w .line; at = w .at; from = a; count = size after; lines = length after; storing = w .storing; tables = w .tables }
 
+    abbrev pub b′ : List ℕ
+    b′ = stored (S .dynamic) after b
+
+    narrow : All NarrowLine after
+    narrow =
+        narrow-expand (program ready) (λ o c. code-narrow classOf code starts o c own) (here ready) (w .line) a (st .place .line)
+        (index-narrow mode 0 (here ready) (subst AllFit (st .records-are) (fit-take (w .count) (recordsOf b) (fit-recordsOf b bytes))))
+
+    fields : AllFit (records mode 0 after)
+    fields =
+        fit-index (known starts) known-31 (S .arity) (S .dynamic) after
+        (code-ok classOf (S .arity) code starts (ready .checked) .arity-to) (omega (arith, fits, capacity-small b, lines-size after)) sound narrow
+
     front : take (size after) (recordsOf b′) ≡ records mode 0 after
-    front = ap (take (size after)) (wrote .records) ∙ take-at (records mode 0 after) (drop (size after) (recordsOf b)) (size after) (length-records mode 0 after)
+    front = stored-records (S .dynamic) after b fields
 
     is-after : indexIn b′ (size after) ≡ after
     is-after = ap parse front ∙ parsed
 
     same-room : capacityOf b′ ≡ capacityOf b
-    same-room = ap (λ (n : ℕ). min (n / 16) 65535) long
+    same-room = stored-capacity (S .dynamic) after b fits
 
     at-after : At mode after (take (size after) (recordsOf b′)) (w .line) (now-is ∷ left due .later) (w .at)
     unfolding now-is
@@ -142,14 +146,9 @@ module _ {code starts : List ℕ} {S : Settings} {b : List ℕ} {w : Walking} {a
         omega (arith, x, y, range due .0, range due .1)
 
     kept-after : (b₀ : List ℕ) → Kept S b₀ b (w .count) → Kept S b₀ b′ (size after)
-    unfolding stored
     kept-after b₀ e =
-        let n : length (records mode 0 after) ≡ size after = length-records mode 0 after in
-        let g : Wrote b b′ (records mode 0 after ++ drop (length (records mode 0 after)) (recordsOf b)) = rw n wrote in
-        let z : b′ ≡ encode (records mode 0 after) ++ drop (16 * length (records mode 0 after)) b =
-        wrote-front b b′ (records mode 0 after) bytes bytes′ (omega (arith, n, fits, capacity-within b)) g in
         let more : size (here ready) ≤ size after = grown-size (program ready) (capacityOf b) (grown-more (w .line) a a (st .place .line) dem fits grown-same) in
-        rw is-after (z ∙ ap (λ (k : ℕ). encode (records mode 0 after) ++ drop (16 * k) b) n ∙ stored-over (S .dynamic) (here ready) after b₀ b more e)
+        rw is-after (ap (stored (S .dynamic) after) e ∙ stored-over (S .dynamic) (here ready) b₀ after more)
 
     module _ (call : List ℕ) (on : w .storing ≡ true) (shut : isOpen (callOf call a) ≡ false) where
       comes-after : (W : Result) → Comes W (w .tables) (restOf code starts S call b w) → Comes W (w .tables) (restOf code starts S call b′ stored-at)
@@ -165,7 +164,7 @@ module _ {code starts : List ℕ} {S : Settings} {b : List ℕ} {w : Walking} {a
           (subst (Comes W (w .tables)) from-on c))
 
       pub went-stored : Went code starts S call b w b′ stored-at
-      went-stored = record { stands = stands-after; comes = comes-after; fewer = fewer-after; kept = kept-after; long = long }
+      went-stored = record { stands = stands-after; comes = comes-after; fewer = fewer-after; kept = kept-after; long = stored-length (S .dynamic) after b fits }
 
   -- it does not fit
   abbrev pub unstored-at : Walking

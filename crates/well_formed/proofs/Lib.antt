@@ -14,4 +14,5 @@ pub mod PassCode
 pub mod Marking
 pub mod Formed
 pub mod CodeKeys
+pub mod Fields
 pub mod ChainLaws

@@ -1,6 +1,6 @@
 -- `capacity` is the lesser of the buffer's whole records and 65,535. Assumes nothing.
 use native.Mathlib.Omega.{arith}
-use Rattle.indexing_builder.proofs.BuilderLaws.{capacity-few, capacity-many}
+use Rattle.indexing.proofs.Stored.{capacity-few, capacity-many}
 use borrow.Author.Needs.{needs}
 use Rattle.indexing_builder.proofs.capacity.Statement.{statement}
 use Rattle.indexing_builder.proofs.capacity.Tie as tie

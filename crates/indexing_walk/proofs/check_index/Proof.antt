@@ -6,8 +6,7 @@ use Rattle.indexing.specs.Builder.{capacityOf}
 use Rattle.indexing_iter.specs.Classes.{classOf}
 use Rattle.indexing_iter.specs.Checks.{risingBelow}
 use Rattle.indexing_iter.proofs.KeyLaws.{code-ok}
-use Rattle.indexing_builder.proofs.BuilderLaws.{capacity-within}
-use Rattle.indexing_walk.proofs.StandLaws.{capacity-small}
+use Rattle.indexing.proofs.Stored.{capacity-within, capacity-small}
 use Rattle.indexing_walk.proofs.CallingLaws.{index-over, index-by}
 use borrow.Author.Needs.{needs}
 use Rattle.indexing_walk.proofs.check_index.Statement.{statement}

@@ -4,8 +4,7 @@ use lib.ListN.{length}
 use Rattle.indexing_iter.specs.Classes.{classOf}
 use Rattle.indexing_iter.proofs.KeyLaws.{code-ok}
 use Rattle.indexing_scan.specs.Calls.{resultOf}
-use Rattle.indexing_builder.proofs.BuilderLaws.{capacity-within}
-use Rattle.indexing_walk.proofs.StandLaws.{capacity-small}
+use Rattle.indexing.proofs.Stored.{capacity-within, capacity-small}
 use Rattle.indexing_walk.proofs.OuterLaws.{Begins, lines-few, starts-so, starts-kept, starts-comes, told-is}
 use borrow.Author.Needs.{needs}
 use Rattle.indexing_walk.proofs.walk_index.Statement.{statement}

@@ -1,6 +1,7 @@
--- `expansion::indices_of_arg` lends the fronts of its columns. Assumes nothing.
+-- `expansion::indices_of_arg` lends the fronts of its columns; what they give is section 4's expansion. Assumes nothing.
 use native.Mathlib.Omega.{arith}
 use lib.ListN.{length-take}
+use Rattle.indexing_builder.proofs.ExpansionLaws.{expandable, expansion-is}
 use borrow.Author.Needs.{needs}
 use Rattle.indexing_builder.proofs.expansion.indices_of_arg.Statement.{statement}
 use Rattle.indexing_builder.proofs.expansion.indices_of_arg.Tie as tie
@@ -50,13 +51,16 @@ slice-aggregate-expand-line-6 c = simp length-take (omega arith)
 expand-line-requires : tie.Need-expand-line-requires
 expand-line-requires c κs =
     let p = c .before .before .before .before .before .before .before .before .before .before .before .before .pre in
-    (p, (simp length-take (omega arith), simp length-take (omega arith)))
+    (expandable p, (simp length-take (omega arith), simp length-take (omega arith)))
 
 same-length : tie.Need-same-length
 same-length c = search needs
 
 returns : tie.Need-returns
-returns c = search needs
+returns c =
+    let s = c .before .before .before .before .before .before .before .before .before .before .before .before .before .before .before .before .before .before .before .before .before in
+    let d = c .before .before .before .before .before .before .before .before .expand-line in
+    expansion-is (s .pre) (d .last .1 .1 .1 .0) (d .result) (λ i. omega (arith, c .before .before .before .before .before .before .before .before .before .before .before .before .before .before .before .before .before .before .slice-known .given i)) (λ i. omega (arith, c .before .before .before .before .before .before .slice-known2 .given i)) (d .ensures)
 
 pub indices-of-arg-spec : {M : Type 1} → statement M
 indices-of-arg-spec =

@@ -1,9 +1,6 @@
-use mathlib.Core.Path.{_≡_}
 use native.Mathlib.Omega.{arith}
-use lib.ListN.{length}
-use Rattle.indexing_walk.proofs.StandLaws.{AtDemand, within, range-arg, below-count}
-use Rattle.indexing_walk.proofs.ReadyLaws.{small}
-use Rattle.indexing_walk.proofs.ExpandLaws.{read-count, read-offs, read-tags, all-known, Grows, grows}
+use Rattle.indexing_walk.proofs.StandLaws.{AtDemand, within}
+use Rattle.indexing_walk.proofs.ExpandLaws.{read-count, read-offs, read-tags, Grows, demanded, grows}
 use borrow.Author.Needs.{needs}
 use Rattle.indexing_walk.proofs.store.store_line.Statement.{statement}
 use Rattle.indexing_walk.proofs.store.store_line.Tie as tie
@@ -26,17 +23,9 @@ grown : (c : tie.After-slice-known6)
       Grows (a .code .now) (a .starts .now) (a .settings) (a .index .now) (a .w) (a .a) (d .last .1 .1 .1 .0) (d .result)
 grown c =
     let s = c .before .before .before .before .before .before .before .before .before .before .before .before .before .before .before .before .before .before .before .before .before in
-    let a = s .args in
-    let line = s .pre .1 .1 .1 .0 in
-    let r = c .before .before .before .before .before .before .before .before .before .before .before .before .read-choices in
-    let list = r .last .1 .1 .1 .0 in
-    let tags = r .last .1 .1 .1 .1 .0 in
-    let k = c .before .before .before .before .before .before .capacity in
     let d = c .before .before .indices-of-arg in
-    let len : length (d .last .1 .1 .1 .0) ≡ length (a .index .now) = search needs in
-    grows (due s) list tags (read-offs (due s) (a .q) (a .m) (line .0) (line .1) list (r .ensures .0)) (read-tags (due s) (a .q) (a .m) (line .0) (line .1) tags (r .ensures .1))
-    (d .last .1 .1 .1 .0) (λ i. omega (arith, c .before .before .before .before .before .before .before .before .before .before .before .before .before .before .before .before .before .before .slice-known .given i)) (λ i. omega (arith, c .slice-known6 .given i)) len (s .pre .1 .1 .0 .2)
-    (k .result) (k .ensures .0) (d .result) (d .ensures .answer) (d .ensures .leaves)
+    grows (due s) (c .before .before .before .before .before .before .capacity .result) (λ i. omega (arith, c .before .before .before .before .before .before .before .before .before .before .before .before .before .before .before .before .before .before .before .before .shared-slice-known .given i)) (λ i. omega (arith, c .before .before .before .before .before .before .before .before .before .before .before .before .before .before .before .before .before .before .slice-known .given i))
+    (s .pre .1 .1 .0 .2) (d .last .1 .1 .1 .0) (d .result) (d .ensures)
 
 read-choices-requires : tie.Need-read-choices-requires
 read-choices-requires c κs =
@@ -54,18 +43,10 @@ indices-of-arg-requires c κs =
     let line = s .pre .1 .1 .1 .0 in
     let r = c .before .before .before .before .before .before .before .before .before .read-choices in
     let list = r .last .1 .1 .1 .0 in
-    let k = c .before .before .before .capacity .ensures in
-    let ll : length list ≡ length (a .list .now) = search needs in
-    let lt : length (r .last .1 .1 .1 .1 .0) ≡ length (a .tags .now) = search needs in
-    let few = read-count (due s) (a .q) (a .m) (line .0) (line .1) .2 in
-    let lens = s .pre .1 .1 .0 in
-    record {
-      checked = s .pre .0;
-      known = all-known (due s) list (read-offs (due s) (a .q) (a .m) (line .0) (line .1) list (r .ensures .0));
-      few = omega (arith, ll, lens .0, few);
-      tagged = omega (arith, ll, lt, lens .0, lens .1);
-      placed = omega (arith, range-arg (due s), small (due s .ready), below-count (due s), s .pre .1 .0 .fits, k);
-    }
+    let tags = r .last .1 .1 .1 .1 .0 in
+    let k = c .before .before .before .capacity in
+    demanded (due s) (k .result) list tags (k .ensures .0) (read-offs (due s) (a .q) (a .m) (line .0) (line .1) list (r .ensures .0))
+    (read-tags (due s) (a .q) (a .m) (line .0) (line .1) tags (r .ensures .1))
 
 enum-known-x : tie.Need-enum-known-x
 enum-known-x c = search needs

@@ -1,4 +1,5 @@
--- Every record of an index that comes of the built one by expansions that fit has its fields in their ranges.
+-- The fields of an index's records are in their ranges: of the built index, of one that is read from a buffer, and of each that comes of them by
+-- expansions that fit.
 -- Assumes nothing.
 use mathlib.Core.Path.{_≡_, refl}
 use mathlib.Core.Bool.{Bool, true, false, cond, not, _&&_}
@@ -7,12 +8,19 @@ use mathlib.Core.Option.{Option, none, some}
 use Prim.Native.Nat.{ℕ, zero, suc, _+_, _-_, _≤_, _<_}
 use native.Mathlib.Omega.{arith}
 use lib.Dec.{eqb, leb, ltb, ltb→lt}
-use lib.ListN.{length, set}
-use Rattle.records.specs.Records.{AllFit}
-use Rattle.records.proofs.Fitting.{fit-none, fit-cons, fit-append}
+use lib.ListN.{length, take, drop, set}
+use lib.Seq.{slice, getD-drop}
+use Rattle.records.specs.declared.Rec.{Rec}
+use Rattle.records.specs.Records.{recordsOf, zeroRec, Fits, AllFit}
+use Rattle.records.proofs.Fitting.{fit-none, fit-cons, fit-append, fit-recordsOf}
+use Rattle.records.proofs.Whole.{Bytes}
+use Rattle.indexing_iter.specs.declared.InstructionArg.{InstructionArg}
+use Rattle.indexing_iter.specs.declared.InstructionArg.the-variants.{ArgedHead, ArglessHead, NonHead, Prologue}
 use Rattle.indexing_iter.specs.declared.OptArgIndexKey.{OptArgIndexKey as Key}
 use Rattle.indexing_iter.specs.declared.OptArgIndexKey.the-variants.{None, Literal, Structure, List as ListKey}
-use Rattle.indexing_iter.specs.Keys.{sortOf, groupOf, same}
+use Rattle.indexing_iter.specs.Classes.{isKeyed, isShallowTemp, keyOfClass, argOfClass, instructionArg}
+use Rattle.indexing_iter.specs.Clauses.{endOf, clauseAt, keyOf}
+use Rattle.indexing_iter.specs.Keys.{sortOf, arityOf, bitsOf, groupOf, same, keyStep, keyIn}
 use Rattle.indexing.proofs.Built.{built-is-expanded}
 use Rattle.indexing.proofs.Expand.{opens, outcome, grown, expand-is, Later, later-none, later-demand, later-dead, later-view}
 use Rattle.indexing.proofs.Grown.{Grown, grown-same, grown-more}
@@ -25,9 +33,76 @@ use Rattle.indexing.specs.Seed.{seed}
 use Rattle.indexing.specs.Lines.{Ptr, ext, int, Entry, Table, switch, onDemand, dead, Choice, Line, Index, noLine, lineAt, offs, argOf, swap, word}
 use Rattle.indexing.specs.Lines.{entryRec, deadRec, tableRecs, tablesRecs, choiceRec, modeOf, lineRec, records}
 use Rattle.indexing.specs.Lists.{keep, anyOf, every}
 use Rattle.well_formed.specs.WellFormed.{risingOk, argsOk, keyOk, keysOk, entryKeys, tagOk, someOk, choicesOk, pointerOk, tableOk, lineOk, linesOk, indexOk}
 use Rattle.well_formed.proofs.SwitchKeys.{keys-parts}
-use Rattle.claims.proofs.Accepted.{Narrow}
+
+-- ---- the keys of a code
+
+-- a key whose arity and bits fit a record
+abbrev pub Narrow : Key → Type 0
+Narrow k = (arityOf k < 65536) × (bitsOf k < 18446744073709551616)
+
+abbrev NarrowArg : InstructionArg → Type 0
+NarrowArg NonHead = Unit {0}
+NarrowArg Prologue = Unit {0}
+NarrowArg ArglessHead = Unit {0}
+NarrowArg (ArgedHead reg key) = Narrow key
+
+narrow-arg : (class : ℕ) (r : Rec) → Fits r → NarrowArg (argOfClass class r)
+unfolding argOfClass
+narrow-arg class r f = go (eqb class 1) (eqb class 2) (isKeyed class) (isShallowTemp r)
+  where
+    key : (x y : Bool) → Narrow (cond x (Structure (r .half) (r .long)) (cond y (Literal (r .half) (r .long)) ListKey))
+    key true y = (f .half, f .long)
+    key false true = (omega arith, f .long)
+    key false false = (omega arith, omega arith)
+
+    go : (p q keyed temp : Bool)
+        → NarrowArg (cond p Prologue (cond q ArglessHead (cond keyed (cond temp (ArgedHead (r .word) (keyOfClass class r)) NonHead) NonHead)))
+    go true q keyed temp = tt
+    go false true keyed temp = tt
+    go false false false temp = tt
+    go false false true false = tt
+    go false false true true = key (eqb class 3) (eqb class 5)
+
+narrow-step : (a : InstructionArg) (j : ℕ) (rest : Key) → NarrowArg a → Narrow rest → Narrow (keyStep a j rest)
+narrow-step NonHead j rest f g = (omega arith, omega arith)
+narrow-step Prologue j rest f g = g
+narrow-step ArglessHead j rest f g = g
+narrow-step (ArgedHead reg key) j rest f g = go (eqb reg j)
+  where
+    go : (t : Bool) → Narrow (cond t key rest)
+    go true = f
+    go false = g
+
+narrow-in : (cls : ℕ → ℕ) (rs : List Rec) (j : ℕ) → AllFit rs → Narrow (keyIn cls rs j)
+unfolding keyIn
+narrow-in cls [] j f = (omega arith, omega arith)
+narrow-in cls (r ∷ rs) j f =
+    narrow-step (instructionArg cls r) j (keyIn cls rs j) (narrow-arg (cls (r .kind)) r (f 0)) (narrow-in cls rs j (λ i. f (suc i)))
+
+pub fit-take : (n : ℕ) (rs : List Rec) → AllFit rs → AllFit (take n rs)
+fit-take zero rs f i = fit-none
+fit-take (suc n) [] f i = fit-none
+fit-take (suc n) (r ∷ rs) f zero = f 0
+fit-take (suc n) (r ∷ rs) f (suc i) = fit-take n rs (λ k. f (suc k)) i
+
+fit-drop : (n : ℕ) (rs : List Rec) → AllFit rs → AllFit (drop n rs)
+fit-drop n rs f i = rw (getD-drop n rs i zeroRec) (f (n + i))
+
+fit-clause : (rs : List Rec) (starts : List ℕ) (o : ℕ) → AllFit rs → AllFit (clauseAt rs starts o)
+unfolding clauseAt
+fit-clause rs [] o f = λ i. fit-none
+fit-clause rs (s ∷ ss) o f = go (eqb (suc s) o) (fit-clause rs ss o f)
+  where
+    go : (t : Bool) → AllFit (clauseAt rs ss o) → AllFit (cond t (slice s (endOf (length rs) ss) rs) (clauseAt rs ss o))
+    go true g = fit-drop s (take (endOf (length rs) ss) rs) (fit-take (endOf (length rs) ss) rs f)
+    go false g = g
+
+-- the keys of a code that is a list of bytes
+pub code-narrow : (cls : ℕ → ℕ) (code starts : List ℕ) (o a : ℕ) → Bytes code → Narrow (keyOf cls (recordsOf code) starts o a)
+unfolding keyOf
+code-narrow cls code starts o a f = narrow-in cls (clauseAt (recordsOf code) starts o) a (fit-clause (recordsOf code) starts o (fit-recordsOf code f))
 
 -- ---- the keys of the switches are those of the code
 
@@ -122,6 +197,31 @@ module _ (P : Program) where
     pub narrow-grown : (cap : ℕ) {idx idx′ : Index} → Grown P cap idx idx′ → All NarrowLine idx → All NarrowLine idx′
     narrow-grown cap grown-same f = f
     narrow-grown cap (grown-more {idx = idx} l a c h d k g) f = narrow-grown cap g (narrow-expand idx l a h f)
+
+-- ---- so are the keys of an index whose records fit
+
+fit-parts : (a b : List Rec) → AllFit (a ++ b) → AllFit a × AllFit b
+fit-parts [] b f = ((λ i. fit-none), f)
+fit-parts (r ∷ a) b f = let x = fit-parts a b (λ i. f (suc i)) in (fit-cons r a (f 0) (x .0), x .1)
+
+entries-narrow : (es : List (Entry Ptr)) → AllFit (map entryRec es) → All (λ (e : Entry Ptr). Narrow (e .key)) es
+entries-narrow [] f = tt
+entries-narrow (e ∷ es) f = ((f 0 .half, f 0 .long), entries-narrow es (λ i. f (suc i)))
+
+table-narrow : (t : Table) → AllFit (tableRecs t) → NarrowTable t
+table-narrow (switch a es) f = entries-narrow es (λ i. f (suc i))
+table-narrow (onDemand a) f = tt
+table-narrow (dead a os) f = tt
+
+tables-narrow : (ts : List Table) → AllFit (tablesRecs ts) → All NarrowTable ts
+tables-narrow [] f = tt
+tables-narrow (t ∷ ts) f = let x = fit-parts (tableRecs t) (tablesRecs ts) f in (table-narrow t (x .0), tables-narrow ts (x .1))
+
+pub index-narrow : (m n : ℕ) (idx : Index) → AllFit (records m n idx) → All NarrowLine idx
+index-narrow m n [] f = tt
+index-narrow m n (l ∷ ls) f =
+    let x = fit-parts (tablesRecs (l .tables)) (map choiceRec (l .choices) ++ records m (suc n) ls) (λ i. f (suc i)) in
+    (tables-narrow (l .tables) (x .0), index-narrow m (suc n) ls (fit-parts (map choiceRec (l .choices)) (records m (suc n) ls) (x .1) .1))
 
 -- ---- a sound index with such keys fits its records
 
