@@ -3,14 +3,14 @@
 use mathlib.Core.Path.{_≡_, refl, sym, ap, ap₂, _∙_, subst}
 use mathlib.Core.Bool.{true, cond}
 use mathlib.Core.List.{List, _++_}
-use Prim.Native.Nat.{ℕ, suc, _+_, _-_, _*_, _≤_, _<_}
+use Prim.Native.Nat.{ℕ, suc, _+_, _-_, _≤_, _<_}
 use native.Mathlib.Omega.{arith}
 use lib.ListN.{length, getD, take, drop, take-append-drop, set}
 use lib.Seq.{length-take-le, take-suc, drop-cons, append-snoc, set-at}
 use native.Mathlib.Numerals.{add-one}
 use Rattle.records.specs.declared.Rec.{Rec}
-use Rattle.records.specs.Records.{recordsOf, encode}
-use Rattle.records.proofs.Whole.{Bytes, wrote-front}
+use Rattle.records.specs.Records.{recordsOf}
+use Rattle.records.proofs.Whole.{Bytes}
 use Rattle.indexing_iter.specs.declared.Settings.{Settings}
 use Rattle.indexing_iter.specs.declared.Checked.the-variants.{Passed}
 use Rattle.indexing_iter.specs.Classes.{classOf}
@@ -30,7 +30,7 @@ use Rattle.indexing_walk.specs.declared.Walking.{Walking}
 use Rattle.indexing_walk.specs.Answers.{toldBy}
 use Rattle.indexing_walk.specs.Walking.{indexIn, Stands, Kept, Comes, restOf, Ends}
 use Rattle.indexing_walk.proofs.WalkLaws.{comes-start}
-use Rattle.indexing.proofs.Stored.{capacity-within, capacity-small}
+use Rattle.indexing.proofs.Stored.{capacity-within, capacity-small, stored-wrote}
 
 -- ---- a list copied
 
@@ -78,11 +78,14 @@ module _ {code starts : List ℕ} {S : Settings} {b : List ℕ} {count lines : �
   sound : indexOk (S .arity) (S .dynamic) (known starts) idx ≡ true
   sound = well-index P (known starts) (take count (recordsOf b)) (begins .well)
 
+  within : count ≤ length (recordsOf b)
+  within = omega (arith, begins .fits, capacity-within b)
+
+  count-is : count ≡ size idx
+  count-is = sym (length-take-le count (recordsOf b) within) ∙ ap length is ∙ length-records (modeOf (S .dynamic)) 0 idx
+
   pub lines-few : lines ≤ 65535
-  lines-few =
-      let h : count ≤ length (recordsOf b) = omega (arith, begins .fits, capacity-within b) in
-      let n : count ≡ size idx = sym (length-take-le count (recordsOf b) h) ∙ ap length is ∙ length-records (modeOf (S .dynamic)) 0 idx in
-      omega (arith, begins .many, n, begins .fits, capacity-small b, lines-size idx)
+  lines-few = omega (arith, begins .many, count-is, begins .fits, capacity-small b, lines-size idx)
 
   some-line : 0 < length idx
   some-line = index-length P (known starts) idx sound
@@ -102,16 +105,10 @@ module _ {code starts : List ℕ} {S : Settings} {b : List ℕ} {count lines : �
   }
 
   pub starts-kept : Bytes b → Kept S b b count
-  unfolding stored
   starts-kept bytes =
-      let rs = records (modeOf (S .dynamic)) 0 idx in
-      let n : length rs ≡ size idx = length-records (modeOf (S .dynamic)) 0 idx in
-      let h : count ≤ length (recordsOf b) = omega (arith, begins .fits, capacity-within b) in
-      let m : length rs ≡ count = sym (ap length is) ∙ length-take-le count (recordsOf b) h in
-      let e : recordsOf b ≡ rs ++ drop (length rs) (recordsOf b) =
-          sym (take-append-drop count (recordsOf b)) ∙ ap₂ (λ (x : List Rec) (y : ℕ). x ++ drop y (recordsOf b)) is (sym m) in
-      wrote-front b b rs bytes bytes (omega (arith, m, h)) (record { records = e; count = refl; odd = refl })
-      ∙ ap (λ (x : ℕ). encode rs ++ drop (16 * x) b) n
+      let e : recordsOf b ≡ records (modeOf (S .dynamic)) 0 idx ++ drop (size idx) (recordsOf b) =
+          sym (take-append-drop count (recordsOf b)) ∙ ap₂ (λ (x : List Rec) (y : ℕ). x ++ drop y (recordsOf b)) is count-is in
+      stored-wrote (S .dynamic) idx b b bytes bytes (omega (arith, count-is, within)) (record { records = e; count = refl; odd = refl })
 
   pub starts-comes : (call : List ℕ) → Comes (resultOf classOf code starts S call b count) 0 (restOf code starts S call b first)
   unfolding resultOf restOf

@@ -39,7 +39,7 @@ use Rattle.indexing_scan.specs.Calls.{callOf}
 use Rattle.indexing_scan.specs.Places.{At, headRec}
 use Rattle.indexing_scan.specs.Walk.{line, Result, walkFrom}
 use Rattle.indexing_walk.specs.declared.Walking.{Walking}
-use Rattle.indexing_walk.specs.Walking.{indexIn, Stands, Kept, Comes, restOf, turnsLeft, Went}
+use Rattle.indexing_walk.specs.Walking.{indexIn, offAt, grownAt, Stands, Kept, Comes, restOf, turnsLeft, Went}
 use Rattle.indexing_walk.proofs.WalkLaws.{rest, found, at-left, expands, refuses, not-demand}
 use Rattle.indexing_walk.proofs.StandLaws.{Ready, program, here, choices, orderly, AtDemand, left, left-it, range, placed}
 
@@ -88,10 +88,10 @@ module _ {code starts : List ℕ} {S : Settings} {b : List ℕ} {w : Walking} {a
 
   -- it fits, and is stored
   module _ (own : Bytes code) (bytes : Bytes b) (fits : size after ≤ capacityOf b) where
-    abbrev pub stored-at : Walking
-    stored-at = record { line = w .line; at = w .at; from = a; count = size after; lines = length after; storing = w .storing; tables = w .tables }
+    abbrev stored-at : Walking
+    stored-at = grownAt w a (size after) (length after)
 
-    abbrev pub b′ : List ℕ
+    abbrev b′ : List ℕ
     b′ = stored (S .dynamic) after b
 
     narrow : All NarrowLine after
@@ -167,22 +167,19 @@ module _ {code starts : List ℕ} {S : Settings} {b : List ℕ} {w : Walking} {a
       went-stored = record { stands = stands-after; comes = comes-after; fewer = fewer-after; kept = kept-after; long = stored-length (S .dynamic) after b fits }
 
   -- it does not fit
-  abbrev pub unstored-at : Walking
-  unstored-at = record { line = w .line; at = w .at; from = w .from; count = w .count; lines = w .lines; storing = false; tables = w .tables }
-
   module _ (over : capacityOf b < size after) (call : List ℕ) (on : w .storing ≡ true) (shut : isOpen (callOf call a) ≡ false) where
-    comes-over : (W : Result) → Comes W (w .tables) (restOf code starts S call b w) → Comes W (w .tables) (restOf code starts S call b unstored-at)
+    comes-over : (W : Result) → Comes W (w .tables) (restOf code starts S call b w) → Comes W (w .tables) (restOf code starts S call b (offAt w))
     unfolding restOf rest
     comes-over W c =
         let from-on : restOf code starts S call b w ≡ rest (program ready) (capacityOf b) (callOf call) (record { storing = true; index = (here ready) }) (w .line) (w .from) =
         λ i. walkFrom (program ready) (capacityOf b) (callOf call) (S .arity + 1 - w .from) (w .from) (record { storing = on i; index = (here ready) }) (line (w .line)) in
         refuses (program ready) (capacityOf b) (callOf call) W (w .tables) (here ready) (w .line) (w .from) a (left due .later) (left-it due) shut over (subst (Comes W (w .tables)) from-on c)
 
-    fewer-over : turnsLeft S b unstored-at < turnsLeft S b w
+    fewer-over : turnsLeft S b (offAt w) < turnsLeft S b w
     unfolding turnsLeft
     fewer-over = let x : cond {A = ℕ} (w .storing) 1 0 ≡ 1 = ap (λ (z : Bool). cond {A = ℕ} z 1 0) on in omega (arith, x)
 
-    pub went-over : Went code starts S call b w b unstored-at
+    pub went-over : Went code starts S call b w b (offAt w)
     went-over = record {
       stands = record {
         records-are = st .records-are;
