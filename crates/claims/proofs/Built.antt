@@ -10,7 +10,8 @@ use Rattle.indexing.specs.Build.{Program, openAt, build}
 use Rattle.indexing.specs.Seed.{seed}
 use Rattle.indexing_scan.proofs.Same.{kept, same-from}
 use Rattle.indexing_scan.specs.Agree.{Call, agree}
-use Rattle.indexing_scan.specs.Walk.{line, answer}
+use Rattle.indexing_scan.specs.ByArgument.{answer}
+use Rattle.indexing_scan.specs.Walk.{line}
 use Rattle.claims.proofs.Selects.{Selects, selects-from, agree-at}
 
 -- every clause that agrees is selected, once and in order

@@ -18,7 +18,7 @@ use Rattle.indexing.specs.Build.{build}
 use Rattle.indexing.specs.Expand.{expand}
 use Rattle.indexing.specs.Builder.{capacityOf, stored, indexOf, buildCall}
 use Rattle.indexing.specs.Lists.{every}
-use Rattle.indexing_scan.specs.Walk.{move, answerFrom, walkFrom}
+use Rattle.indexing_scan.specs.ByArgument.{move, answerFrom, walkFrom}
 use Rattle.indexing_scan.specs.Calls.{argumentOk, callOf, resultOf, walkCall}
 use Rattle.claims.specs.Demand3.{Every}
 use Rattle.claims.specs.Example.{built, outcomesFrom, outcomes, walks, listed, bothAlike, allListed}

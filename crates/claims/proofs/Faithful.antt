@@ -25,8 +25,8 @@ use Rattle.indexing.specs.Lists.{anyOf}
 use Rattle.indexing_scan.proofs.Choose.{Ways, ways-none, ways-some, choose-linked}
 use Rattle.indexing_scan.proofs.Same.{kept, same-from}
 use Rattle.indexing_scan.specs.Agree.{Call, agree}
-use Rattle.indexing_scan.specs.Walk.{Chosen, line, unstored, Move, pass, goto, look, act, clauses, follow, demand, moveAt, moveOn, move, answerFrom}
-use Rattle.indexing_scan.specs.Walk.{answer}
+use Rattle.indexing_scan.specs.ByArgument.{act, moveOn, move, answerFrom, answer}
+use Rattle.indexing_scan.specs.Walk.{Chosen, line, unstored, Move, pass, goto, look, clauses, follow, demand, moveAt}
 use Rattle.claims.proofs.Selects.{Buckets, Right, chosen-right, virtual-buckets, virtual-complete, Selects, Picks, picks-skip, picks-pass}
 use Rattle.claims.proofs.Selects.{picks-stop, picks-out, picks-goto, NoSwitchAt, demand-picks, selects-trans, selects-from, agree-at}
 

@@ -29,7 +29,8 @@ use Rattle.indexing_scan.proofs.Steps.{steps-is-walk}
 use Rattle.indexing_scan.proofs.Walks.{has-line, on-demand, walk-answer, walk-grown, grown-answer}
 use Rattle.indexing_scan.specs.Agree.{Call}
 use Rattle.indexing_scan.specs.Steps.{steps}
-use Rattle.indexing_scan.specs.Walk.{line, answer, isOnDemand, due, walk}
+use Rattle.indexing_scan.specs.ByArgument.{answer, isOnDemand, due}
+use Rattle.indexing_scan.specs.Walk.{line, walk}
 
 -- a line that has a table is one of the index
 has-table : (idx : Index) (l a : ℕ) (t : Table) → find a (lineAt idx l .tables) ≡ some t → l < length idx

@@ -19,7 +19,8 @@ use Rattle.indexing_iter.proofs.CheckLaws.{Rising}
 use Rattle.indexing_scan.proofs.Rising.{args, path-rising}
 use Rattle.indexing_scan.proofs.Walks.{has-line, grown-answer, walk-answer, walk-grown}
 use Rattle.indexing_scan.specs.Agree.{Call, agree}
-use Rattle.indexing_scan.specs.Walk.{Place, line, unstored, Move, skip, stop, pass, out, goto, fail, Answer, look, act, move, answerFrom, answer}
+use Rattle.indexing_scan.specs.ByArgument.{act, move, answerFrom, answer}
+use Rattle.indexing_scan.specs.Walk.{Place, line, unstored, Move, skip, stop, pass, out, goto, fail, Answer, look}
 use Rattle.indexing_scan.specs.Walk.{walk}
 use Rattle.claims.proofs.Built.{built-selects}
 use Rattle.claims.proofs.Selects.{rising-sublist}

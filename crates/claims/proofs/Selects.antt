@@ -23,8 +23,9 @@ use Rattle.indexing.specs.Lists.{add, keep, anyOf, distinct}
 use Rattle.indexing_iter.proofs.CheckLaws.{Rising}
 use Rattle.indexing_scan.proofs.Rising.{rising-weaken}
 use Rattle.indexing_scan.specs.Agree.{Call, agreeAt, agreeFrom, agree}
-use Rattle.indexing_scan.specs.Walk.{Chosen, equal, marked, pick, choose, Place, unstored, Move, skip, stop, pass, out, goto, Answer, look, act}
-use Rattle.indexing_scan.specs.Walk.{clauses, enter, tableAt, followNew, demand, moveAt, moveOn, move, answerFrom}
+use Rattle.indexing_scan.specs.ByArgument.{act, tableAt, moveOn, move, answerFrom}
+use Rattle.indexing_scan.specs.Walk.{Chosen, equal, marked, pick, choose, Place, unstored, Move, skip, stop, pass, out, goto, Answer, look}
+use Rattle.indexing_scan.specs.Walk.{clauses, enter, followNew, demand, moveAt}
 
 -- a part of a rising list rises
 pub rising-sublist : {xs ys : List ℕ} → Sublistᴰ xs ys → (n : ℕ) → Rising n ys → Rising n xs

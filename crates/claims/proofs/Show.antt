@@ -9,7 +9,7 @@ use Rattle.indexing_iter.specs.Checks.{risingBelow, hasBody, recordBad, checkRe
 use Rattle.indexing.specs.Build.{build}
 use Rattle.indexing.specs.Expand.{expand}
 use Rattle.indexing.specs.Builder.{stored, indexOf, buildCall}
-use Rattle.indexing_scan.specs.Walk.{move, answerFrom, walkFrom}
+use Rattle.indexing_scan.specs.ByArgument.{move, answerFrom, walkFrom}
 use Rattle.indexing_scan.specs.Calls.{argumentOk, callOf, resultOf, walkCall}
 use Rattle.claims.specs.Show.{code, starts, rows, shown, allAlike}
 

@@ -9,7 +9,8 @@ use Rattle.indexing.specs.Expand.{expand, State}
 use Rattle.indexing.specs.Lines.{Index, size}
 use Rattle.indexing_scan.proofs.Walks.{settle-quiet, settle-fits, step}
 use Rattle.indexing_scan.specs.Agree.{Call}
-use Rattle.indexing_scan.specs.Walk.{Place, line, unstored, Move, skip, stop, pass, out, goto, act, move, Result, lookAt, result, due, walkFrom}
+use Rattle.indexing_scan.specs.ByArgument.{act, move, due, walkFrom}
+use Rattle.indexing_scan.specs.Walk.{Place, line, unstored, Move, skip, stop, pass, out, goto, Result, lookAt, result}
 
 -- from some number of records on all is stored
 pub record Enough (whole : ℕ → Bool) : Type 0 where

@@ -1,23 +1,23 @@
 -- Order in an index: the arguments of a line's tables rise, and a switch's internal pointers lead to lines whose arguments all exceed the switch's.
 -- Expansions keep it.
 -- Assumes nothing.
-use mathlib.Core.Path.{_≡_, refl, sym, _∙_}
+use mathlib.Core.Path.{_≡_, refl, sym, _∙_, ap}
 use mathlib.Core.Bool.{Bool, true, false, cond}
-use mathlib.Core.List.{List, [], _∷_}
+use mathlib.Core.List.{List, [], _∷_, _++_}
 use mathlib.Core.Option.{Option, some}
 use Prim.Native.Nat.{ℕ, zero, suc, _+_, _≤_, _<_, _-_}
 use native.Mathlib.Decide.{ℕ-discrete, decLt}
 use native.Mathlib.Omega.{arith}
 use lib.Dec.{eqb}
-use lib.ListN.{length}
+use lib.ListN.{length, drop, set}
 use Rattle.indexing.proofs.Built.{seed-demand, seed-length, seed-switch, built-is-expanded}
 use Rattle.indexing.proofs.Expand.{expanded-arg, Leads, leads-ext, leads-int, opens, outcome, at-line, at-other, Later, later-none}
 use Rattle.indexing.proofs.Expand.{later-demand, later-dead, later-view}
 use Rattle.indexing.proofs.Linked.{linked-left}
 use Rattle.indexing.proofs.Pointers.{Inside, inside-ext, inside-int, Links, Closed, expand-new, longer, links-expand}
-use Rattle.indexing.proofs.Tests.{eqb-true}
+use Rattle.indexing.proofs.Tests.{eqb-true, eqb-same, eqb-other}
 use Rattle.indexing.specs.Build.{Program, consOpt, openAt, laterTables, newLine, build}
-use Rattle.indexing.specs.Expand.{expand}
+use Rattle.indexing.specs.Expand.{added, expand, expandAt}
 use Rattle.indexing.specs.Lines.{Ptr, ext, int, Table, onDemand, Choice, Line, Index, lineAt, offs, argOf, find, swap}
 use Rattle.indexing.specs.Seed.{seed}
 
@@ -55,6 +55,41 @@ find-args m n a t (u ∷ ts) r e = go (eqb (argOf u) a) refl e (find-args m (suc
     go : (x : Bool) → eqb (argOf u) a ≡ x → cond x (some u) (find a ts) ≡ some t → (find a ts ≡ some t → (suc (argOf u) ≤ a) × (a ≤ m)) → (n ≤ a) × (a ≤ m)
     go true y f ih = let w : argOf u ≡ a = eqb-true y in (omega (arith, r .0), omega (arith, r .1))
     go false y f ih = let w = ih f in (omega (arith, r .0, w .0), w .1)
+
+-- ---- where the arguments rise, a table expanded at its place is the one for its argument
+
+args-drop : (m n i : ℕ) (ts : List Table) → Args m n ts → Args m n (drop i ts)
+args-drop m n zero ts r = r
+args-drop m n (suc i) [] r = tt
+args-drop m n (suc i) (t ∷ ts) r = args-weaken m n (suc (argOf t)) (drop i ts) (omega (arith, r .0)) (args-drop m (suc (argOf t)) i ts (r .2))
+
+set-swap : (m n i : ℕ) (t u : Table) (ts us : List Table) → Args m n ts → drop i ts ≡ t ∷ us → set ts i u ≡ swap (argOf t) u ts
+set-swap m n zero t u [] us r e = let z : _≡_ {A = ℕ} 0 1 = cc in absurd (omega arith)
+set-swap m n (suc i) t u [] us r e = let z : _≡_ {A = ℕ} 0 1 = cc in absurd (omega arith)
+set-swap m n zero t u (v ∷ ts) us r e = let z : v ≡ t = cc in rw (z, eqb-same (argOf t))
+set-swap m n (suc i) t u (v ∷ ts) us r e =
+    let l : Args m (suc (argOf v)) (t ∷ us) = rw e at (args-drop m (suc (argOf v)) i ts (r .2)) in
+    rw (eqb-other {m = argOf v} {n = argOf t} (omega (arith, l .0))) (ap (λ (ws : List Table). v ∷ ws) (set-swap m (suc (argOf v)) i t u ts us (r .2) e))
+
+drop-set : (i : ℕ) (t u : Table) (ts us : List Table) → drop i ts ≡ t ∷ us → drop i (set ts i u) ≡ u ∷ us
+drop-set zero t u [] us e = let z : _≡_ {A = ℕ} 0 1 = cc in absurd (omega arith)
+drop-set (suc i) t u [] us e = let z : _≡_ {A = ℕ} 0 1 = cc in absurd (omega arith)
+drop-set zero t u (v ∷ ts) us e = let z : ts ≡ us = cc in ap (λ (ws : List Table). u ∷ ws) z
+drop-set (suc i) t u (v ∷ ts) us e = drop-set i t u ts us e
+
+-- what was replaced by its argument stands at its place
+pub drop-swap : (m n i : ℕ) (t u : Table) (ts us : List Table) → Args m n ts → drop i ts ≡ t ∷ us → drop i (swap (argOf t) u ts) ≡ u ∷ us
+drop-swap m n i t u ts us r e = ap (drop i) (sym (set-swap m n i t u ts us r e)) ∙ drop-set i t u ts us e
+
+-- by its place, by its argument: the same index
+pub expand-at : (P : Program) (m n : ℕ) (idx : Index) (l i : ℕ) (t : Table) (us : List Table) → Args m n (lineAt idx l .tables)
+    → drop i (lineAt idx l .tables) ≡ t ∷ us → expandAt P idx l i (argOf t) ≡ expand P idx l (argOf t)
+unfolding expand expandAt
+expand-at P m n idx l i t us r e =
+    let a : ℕ = argOf t in
+    let here : Line = lineAt idx l in
+    ap (λ (ts : List Table). set idx l (record { tables = ts; choices = here .choices }) ++ added P a (here .choices) (opens P idx l a))
+    (set-swap m n i t (outcome P idx l a) (here .tables) us r e)
 
 -- an internal pointer of line l's switch on b: at least one line on, to a line whose arguments exceed b
 pub data Beyond (m : ℕ) (idx : Index) (l b : ℕ) : Ptr → Ptr → Type 0 where

@@ -19,13 +19,21 @@ module _ (P : Program) where
   added a cs [] = newLines P a cs
   added a cs (o ∷ os) = []
 
-  -- section 4: the index with the on-demand table of line l for argument a expanded
-  unfoldable pub expand : Index → ℕ → ℕ → Index
-  expand idx l a =
+  -- section 4: the index with an on-demand table of line l, which is for argument a, expanded; put puts what it becomes in its place
+  abbrev pub expandBy : (Table → List Table → List Table) → Index → ℕ → ℕ → Index
+  expandBy put idx l a =
       let here = lineAt idx l in
       let opens = openAt P a (offs (here .choices)) in
       let table = expanded a (here .choices) (length idx - l - 1) opens in
-      set idx l (record { tables = swap a table (here .tables); choices = here .choices }) ++ added a (here .choices) opens
+      set idx l (record { tables = put table (here .tables); choices = here .choices }) ++ added a (here .choices) opens
+
+  -- section 4: the index with the on-demand table of line l for argument a expanded
+  unfoldable pub expand : Index → ℕ → ℕ → Index
+  expand idx l a = expandBy (swap a) idx l a
+
+  -- sections 4 and 5, the same by the table's place: table i of line l, counted from 0, is on demand for a
+  unfoldable pub expandAt : Index → ℕ → ℕ → ℕ → Index
+  expandAt idx l i a = expandBy (λ u ts. set ts i u) idx l a
 
 -- section 5, the state of a walk: whether expansions are stored, and the index
 pub record State : Type 0 where

@@ -23,8 +23,8 @@ use Rattle.indexing_scan.proofs.Walks.{Has, has-line, has-new, act-left
 use Rattle.indexing_scan.proofs.Walks.{settle-full, step, walk-grown}
 use Rattle.indexing_scan.proofs.UnstoredWalk.{left-new}
 use Rattle.indexing_scan.specs.Agree.{Call}
-use Rattle.indexing_scan.specs.Walk.{Place, line, unstored, Move, skip, stop, pass, out, goto, act, moveOn, move, Result, lookAt, result}
-use Rattle.indexing_scan.specs.Walk.{isOnDemand, due, settle, walkFrom}
+use Rattle.indexing_scan.specs.ByArgument.{act, moveOn, move, isOnDemand, due, settle, walkFrom}
+use Rattle.indexing_scan.specs.Walk.{Place, line, unstored, Move, skip, stop, pass, out, goto, Result, lookAt, result}
 
 -- places of which nothing is asked
 data Anywhere : Place → Place → Type 0 where

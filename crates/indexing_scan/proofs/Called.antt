@@ -13,9 +13,9 @@ use Rattle.indexing_iter.specs.Keys.{keyIn}
 use Rattle.indexing_iter.specs.Clauses.{clausesOf, clauseAt, keyOf, known}
 use Rattle.indexing_iter.specs.Checks.{numberOf, risingBelow, hasBody, recordBad, checkRecords, checkClause, checkClauses, checkClausesOf, checkCode}
 use Rattle.indexing.proofs.Sample.{line, switch, demand, entry, inner, offset, constant, body, plain, alike, all}
-use Rattle.indexing.specs.Expand.{expand}
+use Rattle.indexing.specs.Expand.{expandAt}
 use Rattle.indexing.specs.Builder.{stored}
-use Rattle.indexing_scan.specs.Walk.{move, walkFrom}
+use Rattle.indexing_scan.specs.Walk.{walkOn}
 use Rattle.indexing_scan.specs.Calls.{argumentOk, Walked, callOf, resultOf, walkCall, witnessChecks, agreeing, isWitness}
 
 -- ---- arguments of a call
@@ -141,5 +141,5 @@ abbrev checks : Bool
 checks = checked 2 fine 0 && (checked 33 [] 1 && (checked 1 [] 7 && checked 2 (take 31 fine) 10))
 
 pub called : T (all argumentOk good && all (λ r. not (argumentOk r)) bad) × (T (all tells calls) × T (agreements && (chosen && checks)))
-unfolding decode encodeRec encode recs recordsOf classOf argOfClass keyIn clausesOf clauseAt keyOf known risingBelow hasBody recordBad checkRecords checkClause checkClauses checkClausesOf checkCode expand stored move walkFrom argumentOk callOf resultOf walkCall witnessChecks agreeing
+unfolding decode encodeRec encode recs recordsOf classOf argOfClass keyIn clausesOf clauseAt keyOf known risingBelow hasBody recordBad checkRecords checkClause checkClauses checkClausesOf checkCode expandAt stored walkOn argumentOk callOf resultOf walkCall witnessChecks agreeing
 called = (tt, (tt, tt))

@@ -8,7 +8,8 @@ use Rattle.indexing_iter.proofs.CheckLaws.{Rising}
 use Rattle.indexing.specs.Build.{Program}
 use Rattle.indexing.specs.Lines.{Index}
 use Rattle.indexing_scan.specs.Agree.{Call}
-use Rattle.indexing_scan.specs.Walk.{Step, Place, Move, skip, stop, pass, out, goto, Answer, look, act, move, answerFrom}
+use Rattle.indexing_scan.specs.ByArgument.{act, move, answerFrom}
+use Rattle.indexing_scan.specs.Walk.{Step, Place, Move, skip, stop, pass, out, goto, Answer, look}
 
 -- the arguments of the tables looked at
 abbrev pub args : List Step → List ℕ

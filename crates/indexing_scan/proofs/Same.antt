@@ -18,8 +18,9 @@ use Rattle.indexing.specs.Expand.{expanded, expand}
 use Rattle.indexing.specs.Lines.{Ptr, Entry, Table, switch, onDemand, dead, Index, lineAt, offs, find}
 use Rattle.indexing_scan.proofs.Choose.{Ways, ways-none, ways-some, choose-linked}
 use Rattle.indexing_scan.specs.Agree.{Call}
-use Rattle.indexing_scan.specs.Walk.{Step, Chosen, choose, Place, line, unstored, Move, skip, stop, pass, out, goto, Answer, look, act, clauses}
-use Rattle.indexing_scan.specs.Walk.{follow, enter, ending, followNew, demand, moveAt, moveOn, move, answerFrom}
+use Rattle.indexing_scan.specs.ByArgument.{act, moveOn, move, answerFrom}
+use Rattle.indexing_scan.specs.Walk.{Step, Chosen, choose, Place, line, unstored, Move, skip, stop, pass, out, goto, Answer, look, clauses}
+use Rattle.indexing_scan.specs.Walk.{follow, enter, ending, followNew, demand, moveAt}
 
 -- ---- moves that differ only in places that are related
 

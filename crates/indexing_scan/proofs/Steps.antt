@@ -7,22 +7,22 @@ use mathlib.Core.Option.{Option, none, some}
 use Prim.Native.Nat.{ℕ, zero, suc, _+_, _≤_, _<_, _-_}
 use native.Mathlib.Decide.{ℕ-discrete}
 use native.Mathlib.Omega.{arith}
-use lib.ListN.{length}
+use lib.ListN.{length, drop}
 use Rattle.indexing_iter.specs.Keys.{isOpen}
 use Rattle.indexing_iter.specs.declared.OptArgIndexKey.{OptArgIndexKey as Key}
-use Rattle.indexing.proofs.Expand.{length-expand, same-table, no-switch, later-find}
-use Rattle.indexing.proofs.Order.{Args, args-later, Beyond, beyond-ext, beyond-int, Orderly, orderly-expand}
-use Rattle.indexing.proofs.Tests.{eqb-other}
+use Rattle.indexing.proofs.Expand.{outcome, expanded-arg, opens, at-line, new-table, length-expand, same-table, no-switch, later-find}
+use Rattle.indexing.proofs.Order.{Args, args-later, drop-swap, expand-at, Beyond, beyond-ext, beyond-int, Orderly, orderly-expand}
+use Rattle.indexing.proofs.Tests.{eqb-same, eqb-other}
 use Rattle.indexing.specs.Build.{Program, laterTable}
-use Rattle.indexing.specs.Lines.{Ptr, Table, Index, lineAt, argOf, find}
-use Rattle.indexing.specs.Expand.{State}
+use Rattle.indexing.specs.Lines.{Ptr, Table, switch, onDemand, dead, Line, Index, lineAt, argOf, find}
+use Rattle.indexing.specs.Expand.{expand, State, attempt}
 use Rattle.indexing_scan.proofs.Choose.{Ways, ways-none, ways-some, choose-linked}
 use Rattle.indexing_scan.proofs.Same.{Alike, skips, passes, stops, outs, gotos, moves-alike}
 use Rattle.indexing_scan.proofs.Walks.{Turn, still, quiet, stores, refuses, turn, settle-quiet, step}
 use Rattle.indexing_scan.specs.Agree.{Call}
-use Rattle.indexing_scan.specs.Steps.{actOn, placeOf, tablesOf, tablesNext, stepsFrom, steps}
-use Rattle.indexing_scan.specs.Walk.{Chosen, Place, line, unstored, Move, skip, act, follow, ending, tableAt, move, Result, lookAt}
-use Rattle.indexing_scan.specs.Walk.{result, lineNumber, due, settle, walkFrom, walk}
+use Rattle.indexing_scan.specs.ByArgument.{act, tableAt, move, isOnDemand, due, settle, walkFrom, walkBy}
+use Rattle.indexing_scan.specs.Walk.{Chosen, Place, line, unstored, Move, skip, make, follow, ending, tablesOf, meet, Result, lookAt}
+use Rattle.indexing_scan.specs.Walk.{result, lineNumber, tablesIn, expandFirst, ready, visit, walkOn, walk}
 
 -- tables with greater arguments are not for a smaller one
 find-below : (m n b : ℕ) (ts : List Table) → Args m n ts → b < n → find b ts ≡ none
@@ -74,7 +74,8 @@ module _ (P : Program) where
     unfolding move
     no-move a idx p e = rw e
 
-    pub no-due : (a l : ℕ) (idx : Index) → find a (lineAt idx l .tables) ≡ none → due idx l a (Q a) ≡ false
+    -- where no table for it is on demand nothing is expanded
+    no-due : (a l : ℕ) (idx : Index) → isOnDemand (find a (lineAt idx l .tables)) ≡ false → due idx l a (Q a) ≡ false
     no-due a l idx e = rw e (go (not (isOpen (Q a))))
       where
         go : (x : Bool) → x && false ≡ false
@@ -83,7 +84,7 @@ module _ (P : Program) where
 
     pub skip-one : (n a : ℕ) (s : State) (p : Place) → tableAt P (s .index) p a ≡ none → walkFrom P cap Q (suc n) a s p ≡ walkFrom P cap Q n (suc a) s p
     skip-one n a s (line l) e =
-        step P cap Q n a s s (line l) (settle-quiet P cap s l a (Q a) (no-due a l (s .index) e))
+        step P cap Q n a s s (line l) (settle-quiet P cap s l a (Q a) (no-due a l (s .index) (rw e)))
         ∙ ap (λ (m : Move). act (result 0 s) lookAt a (line l) m (λ u. walkFrom P cap Q n (suc a) s u)) (no-move a (s .index) (line l) e)
     skip-one n a s (unstored os) e =
         step P cap Q n a s s (unstored os) refl
@@ -134,41 +135,120 @@ module _ (P : Program) where
     turn-orderly s t b (stores {l = l} {c = c} d f) (here-line k) o = orderly-expand P (s .index) l b c k d o
     turn-orderly s t b (refuses w d f) r o = o
 
-    act-steps : (idx : Index) (t : State) (a : ℕ) (p : Place) (ts : List Table) {m m′ : Move} (k : Option Place → Result) (k′ : Place → Result)
-        → Alike (Ready idx a) m m′
-        → k none ≡ k′ p → ((q q′ : Place) → Ready idx a q q′ → k (some q) ≡ k′ q) → actOn a t m k ≡ act (result 0 t) lookAt a p m k′
-    act-steps idx t a p ts k k′ skips e f = e
-    act-steps idx t a p ts k k′ (passes {h = z}) e f = ap (lookAt (record { did = z; arg = a })) e
-    act-steps idx t a p ts k k′ stops e f = refl
-    act-steps idx t a p ts k k′ outs e f = refl
-    act-steps idx t a p ts k k′ (gotos {h = z} {p = q} {q = q′} r) e f = ap (lookAt (record { did = z; arg = a })) (f q q′ r)
+    -- ---- the walk table by table
 
-    pub steps-walk : (fuel n a : ℕ) (s : State) (p : Place) (ts : List Table) → n + a ≡ suc (P .arity) → n < fuel → 1 ≤ a → Left (s .index) p a ts
-        → Orderly P (s .index) → Here (s .index) p
-        → stepsFrom P cap Q fuel s p ts ≡ walkFrom P cap Q n a s p
-    unfolding stepsFrom
-    steps-walk zero n a s p ts e k z l o h = absurd (omega arith)
-    steps-walk (suc fuel) n a s p [] e k z l o h = sym (walk-end n a s p e (λ c u v. sym (l .looks c u v)))
-    steps-walk (suc fuel) n a s p (u ∷ ts) e k z l o h =
+    -- the first of the tables left is the one for its argument
+    left-first : (idx : Index) (p : Place) (a : ℕ) (u : Table) (us : List Table) → Left idx p a (u ∷ us) → tableAt P idx p (argOf u) ≡ some u
+    left-first idx p a u us l =
+        sym (l .looks (argOf u) (l .args .0) (l .args .1)) ∙ ap (λ (z : Bool). cond z (some u) (find (argOf u) us)) (eqb-same (argOf u))
+
+    -- it is expanded at its place if it is expanded for its argument
+    ready-settle : (s : State) (p : Place) (c i a : ℕ) (u : Table) (us : List Table) → drop i (tablesOf P (s .index) c p) ≡ u ∷ us
+        → Left (s .index) p a (u ∷ us) → Orderly P (s .index) → Here (s .index) p → ready P cap Q s p i ≡ settle P cap s p (argOf u) (Q (argOf u))
+    ready-settle s (unstored os) c i a u us e l o h = refl
+    ready-settle s (line m) c i a u us e l o (here-line k) = rw e (go u e (left-first (s .index) (line m) a u us l))
+      where
+        go : (u : Table) → drop i (lineAt (s .index) m .tables) ≡ u ∷ us → find (argOf u) (lineAt (s .index) m .tables) ≡ some u
+            → expandFirst P cap Q s m i (u ∷ us) ≡ settle P cap s (line m) (argOf u) (Q (argOf u))
+        go (switch b es) y f = sym (settle-quiet P cap s m b (Q b) (no-due b m (s .index) (rw f)))
+        go (dead b os) y f = sym (settle-quiet P cap s m b (Q b) (no-due b m (s .index) (rw f)))
+        go (onDemand b) y f = rw (f, expand-at P (P .arity) 1 (s .index) m i (onDemand b) us (o .rises m k) y) (both (s .storing) (not (isOpen (Q b))))
+          where
+            both : (x y : Bool) → cond (x && y) (attempt cap (s .index) (expand P (s .index) m b)) s
+                ≡ cond (x && (y && true)) (attempt cap (s .index) (expand P (s .index) m b)) s
+            both false y = refl
+            both true true = refl
+            both true false = refl
+
+    ready-end : (s : State) (p : Place) (c i : ℕ) → drop i (tablesOf P (s .index) c p) ≡ [] → ready P cap Q s p i ≡ s
+    ready-end s (line m) c i e = rw e
+    ready-end s (unstored os) c i e = refl
+
+    -- what is looked at then: a table for the same argument at the same place, with the same tables behind it
+    record Seen (idx : Index) (p : Place) (c i b : ℕ) (us : List Table) : Type 0 where
+      table : Table
+      stands : drop i (tablesOf P idx c p) ≡ table ∷ us
+      same : argOf table ≡ b
+      found : tableAt P idx p b ≡ some table
+
+    seen : (s t : State) (c i a : ℕ) (u : Table) (us : List Table) {p : Place} → Turn P cap s (argOf u) (Q (argOf u)) p t
+        → drop i (tablesOf P (s .index) c p) ≡ u ∷ us → Left (s .index) p a (u ∷ us) → Orderly P (s .index) → Here (s .index) p
+        → Seen (t .index) p c i (argOf u) us
+    seen s t c i a u us {p} still e l o h = record { table = u; stands = e; same = refl; found = left-first (s .index) p a u us l }
+    seen s t c i a u us {p} (quiet w) e l o h = record { table = u; stands = e; same = refl; found = left-first (s .index) p a u us l }
+    seen s t c i a u us {p} (refuses w d f) e l o h = record { table = u; stands = e; same = refl; found = left-first (s .index) p a u us l }
+    seen s t c i a u us (stores {l = m} {c = z} d f) e l o (here-line k) =
         let b : ℕ = argOf u in
-        let r : Args (P .arity) a (u ∷ ts) = l .args in
+        let idx : Index = s .index in
+        record {
+          table = outcome P idx m b;
+          stands = ap (λ (x : Line). drop i (x .tables)) (at-line P idx m b k)
+              ∙ drop-swap (P .arity) 1 i u (outcome P idx m b) (lineAt idx m .tables) us (o .rises m k) e;
+          same = expanded-arg P b (lineAt idx m .choices) (length idx - m - 1) (opens P idx m b);
+          found = new-table P idx m b k (onDemand z) d;
+        }
+
+    drop-next : (i : ℕ) (ts us : List Table) (u : Table) → drop i ts ≡ u ∷ us → drop (suc i) ts ≡ us
+    drop-next zero [] us u e = let z : _≡_ {A = ℕ} 0 1 = cc in absurd (omega arith)
+    drop-next (suc i) [] us u e = let z : _≡_ {A = ℕ} 0 1 = cc in absurd (omega arith)
+    drop-next zero (t ∷ ts) us u e = cc
+    drop-next (suc i) (t ∷ ts) us u e = drop-next i ts us u e
+
+    make-steps : (idx : Index) (t : State) (a : ℕ) (p : Place) {m m′ : Move} (next : Result) (first k : Place → Result) → Alike (Ready idx a) m m′
+        → next ≡ k p → ((q q′ : Place) → Ready idx a q q′ → first q ≡ k q) → make (result 0 t) lookAt a m next first ≡ act (result 0 t) lookAt a p m k
+    make-steps idx t a p next first k skips e f = e
+    make-steps idx t a p next first k (passes {h = z}) e f = ap (lookAt (record { did = z; arg = a })) e
+    make-steps idx t a p next first k stops e f = refl
+    make-steps idx t a p next first k outs e f = refl
+    make-steps idx t a p next first k (gotos {h = z} {p = q} {q = q′} r) e f = ap (lookAt (record { did = z; arg = a })) (f q q′ r)
+
+    -- the look at a table is the move for its argument
+    visit-is : (t : State) (p : Place) (c i b : ℕ) (us : List Table) (next : Result) (first : ℕ → Place → Result) (v : Seen (t .index) p c i b us)
+        → visit P cap Q t p (drop i (tablesOf P (t .index) c p)) next first ≡ make (result 0 t) lookAt b (move P (t .index) p b (Q b)) next (first b)
+    unfolding move
+    visit-is t p c i b us next first v =
+        ap (λ (ts : List Table). visit P cap Q t p ts next first) (v .stands)
+        ∙ ap (λ (a : ℕ). make (result 0 t) lookAt a (meet P (t .index) p a (Q a) (v .table)) next (first a)) (v .same)
+        ∙ sym (rw (v .found) refl)
+
+    pub steps-walk : (fuel n a : ℕ) (s : State) (p : Place) (c i : ℕ) (ts : List Table) → drop i (tablesOf P (s .index) c p) ≡ ts
+        → n + a ≡ suc (P .arity) → n < fuel → 1 ≤ a → Left (s .index) p a ts → Orderly P (s .index) → Here (s .index) p
+        → walkOn P cap Q fuel s p c i ≡ walkFrom P cap Q n a s p
+    unfolding walkOn
+    steps-walk zero n a s p c i ts d e k z l o h = absurd (omega arith)
+    steps-walk (suc fuel) n a s p c i [] d e k z l o h =
+        ap (λ (t : State). visit P cap Q t p (drop i (tablesOf P (t .index) c p)) (walkOn P cap Q fuel t p c (suc i)) (λ b q. walkOn P cap Q fuel t q b 0))
+        (ready-end s p c i d)
+        ∙ ap (λ (ts : List Table). visit P cap Q s p ts (walkOn P cap Q fuel s p c (suc i)) (λ b q. walkOn P cap Q fuel s q b 0)) d
+        ∙ sym (walk-end n a s p e (λ c u v. sym (l .looks c u v)))
+    steps-walk (suc fuel) n a s p c i (u ∷ us) d e k z l o h =
+        let b : ℕ = argOf u in
+        let r : Args (P .arity) a (u ∷ us) = l .args in
         let m : ℕ = P .arity - b in
         let t : State = settle P cap s p b (Q b) in
         let w : Turn P cap s b (Q b) p t = turn P cap s p b (Q b) in
         let o′ : Orderly P (t .index) = turn-orderly s t b w h o in
         let h′ : Here (t .index) p = turn-here s t b w h in
-        act-steps (t .index) t b p ts (λ x. stepsFrom P cap Q fuel t (placeOf p x) (tablesNext P (t .index) b ts x))
-        (λ x. walkFrom P cap Q m (suc b) t x) (move-ready (t .index) o′ b (Q b) h′)
-        (steps-walk fuel m (suc b) t p ts (omega (arith, r .1)) (omega (arith, r .0, r .1)) (omega arith) (rest-left s t a b u ts w h refl (r .0) l) o′ h′)
-        (λ q q′ v. steps-walk fuel m (suc b) t q (tablesOf P (t .index) b q) (omega (arith, r .1)) (omega (arith, r .0, r .1)) (omega arith)
-        (ready-left (t .index) b (r .1) v) o′ (ready-here (t .index) b v))
+        let v : Seen (t .index) p c i b us = seen s t c i a u us w d l o h in
+        ap (λ (t : State). visit P cap Q t p (drop i (tablesOf P (t .index) c p)) (walkOn P cap Q fuel t p c (suc i)) (λ b q. walkOn P cap Q fuel t q b 0))
+        (ready-settle s p c i a u us d l o h)
+        ∙ visit-is t p c i b us (walkOn P cap Q fuel t p c (suc i)) (λ b q. walkOn P cap Q fuel t q b 0) v
+        ∙ make-steps (t .index) t b p (walkOn P cap Q fuel t p c (suc i)) (λ q. walkOn P cap Q fuel t q b 0) (λ x. walkFrom P cap Q m (suc b) t x)
+        (move-ready (t .index) o′ b (Q b) h′)
+        (steps-walk fuel m (suc b) t p c (suc i) us (drop-next i (tablesOf P (t .index) c p) us (v .table) (v .stands)) (omega (arith, r .1))
+        (omega (arith, r .0, r .1)) (omega arith) (rest-left s t a b u us w h refl (r .0) l) o′ h′)
+        (λ q q′ x. steps-walk fuel m (suc b) t q b 0 (tablesOf P (t .index) b q) refl (omega (arith, r .1)) (omega (arith, r .0, r .1)) (omega arith)
+        (ready-left (t .index) b (r .1) x) o′ (ready-here (t .index) b x))
         ∙ sym (walk-to n a (suc m) b s p (omega (arith, r .1)) (r .0)
-        (λ c x y. sym (l .looks c x (omega (arith, r .1))) ∙ find-below (P .arity) b c (u ∷ ts) (omega arith, r .1, r .2) y)
+        (λ c x y. sym (l .looks c x (omega (arith, r .1))) ∙ find-below (P .arity) b c (u ∷ us) (omega arith, r .1, r .2) y)
         ∙ step P cap Q m b s t p refl)
 
-    -- the whole walk
-    pub steps-is-walk : (idx : Index) → Orderly P idx → 0 < length idx → steps P cap Q idx ≡ walk P cap Q idx
-    steps-is-walk idx o h =
-        steps-walk (suc (P .arity)) (P .arity) 1 (record { storing = true; index = idx }) (line 0) (lineAt idx 0 .tables)
-        (omega arith) (omega arith) (omega arith)
-        (record { args = o .rises 0 h; looks = λ b u v. refl }) o (here-line h)
+    -- the whole walk, with any bound above the arity
+    pub bound-is-walk : (fuel : ℕ) (idx : Index) → P .arity < fuel → Orderly P idx → 0 < length idx
+        → walkOn P cap Q fuel (record { storing = true; index = idx }) (line 0) 0 0 ≡ walkBy P cap Q idx
+    bound-is-walk fuel idx k o h =
+        steps-walk fuel (P .arity) 1 (record { storing = true; index = idx }) (line 0) 0 0 (lineAt idx 0 .tables) refl
+        (omega arith) k (omega arith) (record { args = o .rises 0 h; looks = λ b u v. refl }) o (here-line h)
+
+    pub walk-is : (idx : Index) → Orderly P idx → 0 < length idx → walk P cap Q idx ≡ walkBy P cap Q idx
+    walk-is idx o h = bound-is-walk (suc (P .arity + tablesIn idx)) idx (omega arith) o h

@@ -20,8 +20,9 @@ use Rattle.indexing.specs.Build.{Program, single, openAt, newTable, virtual}
 use Rattle.indexing.proofs.Tests.{and-true}
 use Rattle.indexing_scan.specs.Agree.{Call}
 use Rattle.indexing_scan.specs.Calls.{caseNumber}
-use Rattle.indexing_scan.specs.Walk.{Step, choose, Move, skip, stop, pass, unstored, sequence, Answer, look, act, enter}
-use Rattle.indexing_scan.specs.Walk.{followNew, demand, moveOn, move, answerFrom}
+use Rattle.indexing_scan.specs.ByArgument.{act, moveOn, move, answerFrom}
+use Rattle.indexing_scan.specs.Walk.{Step, choose, Move, skip, stop, pass, unstored, sequence, Answer, look, enter}
+use Rattle.indexing_scan.specs.Walk.{followNew, demand}
 use Rattle.indexing_scan.specs.Unstored.{moveOf, countOf, heldBy, Held, likeTo, allSame, anyOpen, enteredBy, emptyBy, finishedBy}
 use Rattle.indexing_scan.specs.declared.unstored.Narrowed.{Narrowed}
 use Rattle.indexing_scan.specs.declared.unstored.Narrowed.the-variants.{NoTable, Passed, Failed, Single, Bucket}

@@ -10,7 +10,8 @@ use Rattle.indexing.specs.Lines.{Index}
 use Rattle.indexing.specs.Expand.{State}
 use Rattle.indexing_scan.proofs.Same.{Alike, skips, passes, stops, outs, gotos, act-alike, moves-alike}
 use Rattle.indexing_scan.specs.Agree.{Call}
-use Rattle.indexing_scan.specs.Walk.{Place, unstored, Move, Answer, look, act, move, answerFrom, Result, lookAt, result, walkFrom}
+use Rattle.indexing_scan.specs.ByArgument.{act, move, answerFrom, walkFrom}
+use Rattle.indexing_scan.specs.Walk.{Place, unstored, Move, Answer, look, Result, lookAt, result}
 
 -- places that are not stored
 data Off : Place → Place → Type 0 where

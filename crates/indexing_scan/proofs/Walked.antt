@@ -14,8 +14,8 @@ use Rattle.indexing.proofs.Sample.{alike, fields, all}
 use Rattle.indexing.specs.Lines.{modeOf, records}
 use Rattle.indexing.specs.Reading.{parse}
 use Rattle.indexing.specs.Build.{Program}
-use Rattle.indexing.specs.Expand.{expand}
-use Rattle.indexing_scan.specs.Walk.{Result, move, walkFrom, walk}
+use Rattle.indexing.specs.Expand.{expandAt}
+use Rattle.indexing_scan.specs.Walk.{Result, walkOn, walk}
 use Rattle.indexing_scan.specs.Calls.{caseNumber}
 
 -- ---- a walk: the index, its capacity, the call's keys; then case, line, tables, mark and the offsets selected, and the index left
@@ -126,5 +126,5 @@ walks =
     ∷ asks (dynamic 2 show) empty 9 ListKey (atom 5) (1 ∷ 0 ∷ 2 ∷ 0 ∷ []) emptier ∷ []
 
 pub walked : T (all gives walks)
-unfolding expand move walkFrom
+unfolding expandAt walkOn
 walked = tt

@@ -20,8 +20,9 @@ use Rattle.indexing.specs.Lines.{Table, switch, onDemand, dead, Index, lineAt, 
 use Rattle.indexing_scan.proofs.Choose.{choose-linked}
 use Rattle.indexing_scan.proofs.Same.{Alike, skips, passes, stops, outs, gotos, act-alike, follow-alike, moves-alike, kept, same-from}
 use Rattle.indexing_scan.specs.Agree.{Call}
-use Rattle.indexing_scan.specs.Walk.{Place, line, unstored, Move, skip, stop, pass, out, goto, look, act, move, answerFrom, Result}
-use Rattle.indexing_scan.specs.Walk.{lookAt, result, isOnDemand, due, settle, walkFrom}
+use Rattle.indexing_scan.specs.ByArgument.{act, move, answerFrom, isOnDemand, due, settle, walkFrom}
+use Rattle.indexing_scan.specs.Walk.{Place, line, unstored, Move, skip, stop, pass, out, goto, look, Result}
+use Rattle.indexing_scan.specs.Walk.{lookAt, result}
 
 -- a place that the index has
 pub data Has (idx : Index) : Place → Place → Type 0 where

@@ -1,6 +1,6 @@
 pub mod Agree
 pub mod Walk
-pub mod Steps
+pub mod ByArgument
 pub mod Calls
 pub mod Unstored
 pub mod Witness

@@ -1,16 +1,17 @@
--- The walk (document 01, section 5). It goes over the arguments 1 to arity: at each the present line has one table or none.
+-- The walk, table by table (document 01, section 5).
 -- Assumes nothing.
-use mathlib.Core.Bool.{Bool, true, false, not, cond, _&&_}
+use mathlib.Core.Bool.{Bool, true, not, cond, _&&_}
 use mathlib.Core.List.{List, [], _∷_}
 use mathlib.Core.Option.{Option, none, some}
-use Prim.Native.Nat.{ℕ, zero, suc, _+_}
+use Prim.Native.Nat.{ℕ, zero, suc, _+_, _-_}
 use lib.Dec.{eqb}
+use lib.ListN.{length, drop}
 use Rattle.indexing_iter.specs.declared.OptArgIndexKey.{OptArgIndexKey as Key}
 use Rattle.indexing_iter.specs.Keys.{groupOf, isOpen, same}
 use Rattle.indexing.specs.Lists.{keep}
-use Rattle.indexing.specs.Lines.{Ptr, ext, int, Entry, Table, switch, onDemand, dead, Index, lineAt, offs, find}
-use Rattle.indexing.specs.Build.{Program, openAt, laterTable, lone, virtual}
-use Rattle.indexing.specs.Expand.{expand, State, attempt}
+use Rattle.indexing.specs.Lines.{Ptr, ext, int, Entry, Table, switch, onDemand, dead, Index, lineAt, offs, argOf}
+use Rattle.indexing.specs.Build.{Program, openAt, laterTables, lone, virtual}
+use Rattle.indexing.specs.Expand.{expandAt, State, attempt}
 use Rattle.indexing_scan.specs.Agree.{Call}
 
 -- section 5, what was done at a table looked at, and its argument. 1: unbound, next table. 2: dead, or expanded to dead, next table.
@@ -50,8 +51,8 @@ pub data Place : Type 0 where
   line : ℕ → Place
   unstored : List ℕ → Place
 
--- section 5, what is done at an argument: skip (no table), stop (Fail), pass (next table), out (External, its offset), goto (a line);
--- the first number is what a step did
+-- section 5, what is done at a table: stop (Fail), pass (next table), out (External, its offset), goto (first table of that line); the first
+-- number is what a step did. Where tables are looked for by argument there may be none for it: skip
 pub data Move : Type 0 where
   skip stop : Move
   pass : ℕ → Move
@@ -72,13 +73,13 @@ pub record Answer : Type 0 where
 abbrev pub look : Step → Answer → Answer
 look s r = record { kind = r .kind; offsets = r .offsets; path = s ∷ r .path }
 
--- section 5: acts on a move at place p, argument a; k goes on from a place
-abbrev pub act : {R : Type 0} → (Answer → R) → (Step → R → R) → ℕ → Place → Move → (Place → R) → R
-act done seen a p skip k = k p
-act done seen a p (pass h) k = seen (record { did = h; arg = a }) (k p)
-act done seen a p stop k = seen (record { did = 3; arg = a }) (done (record { kind = fail; offsets = []; path = [] }))
-act done seen a p (out h o) k = seen (record { did = h; arg = a }) (done (record { kind = external; offsets = o ∷ []; path = [] }))
-act done seen a p (goto h q) k = seen (record { did = h; arg = a }) (k q)
+-- section 5: makes a move at a table for argument a; next goes on with the next table, first with the first table of a line
+abbrev pub make : {R : Type 0} → (Answer → R) → (Step → R → R) → ℕ → Move → R → (Place → R) → R
+make done seen a skip next first = next
+make done seen a (pass h) next first = seen (record { did = h; arg = a }) next
+make done seen a stop next first = seen (record { did = 3; arg = a }) (done (record { kind = fail; offsets = []; path = [] }))
+make done seen a (out h o) next first = seen (record { did = h; arg = a }) (done (record { kind = external; offsets = o ∷ []; path = [] }))
+make done seen a (goto h q) next first = seen (record { did = h; arg = a }) (first q)
 
 -- section 5: the clauses of a place
 abbrev pub clauses : Index → Place → List ℕ
@@ -116,10 +117,10 @@ abbrev pub ending : Index → Place → Answer
 ending idx p = record { kind = kindAt p; offsets = clauses idx p; path = [] }
 
 module _ (P : Program) where
-  -- section 5: the table for an argument at a place
-  abbrev pub tableAt : Index → Place → ℕ → Option Table
-  tableAt idx (line l) a = find a (lineAt idx l .tables)
-  tableAt idx (unstored os) a = laterTable P a os
+  -- section 5: the tables of a place; a line that is not stored has those of section 3 for the arguments above a, whose switch led there
+  abbrev pub tablesOf : Index → ℕ → Place → List Table
+  tablesOf idx a (line l) = lineAt idx l .tables
+  tablesOf idx a (unstored os) = laterTables P (P .arity - a) (suc a) os
 
   -- section 5: follows what a switch that is not stored chose
   abbrev pub followNew : Option (Chosen (List ℕ)) → Move
@@ -137,24 +138,9 @@ module _ (P : Program) where
   moveAt idx p a q (onDemand b) = demand a q (clauses idx p) (openAt P a (clauses idx p))
   moveAt idx p a q (dead b os) = pass 2
 
-  -- section 5: an argument at a table, if there is one
-  abbrev pub moveOn : Index → Place → ℕ → Key → Option Table → Move
-  moveOn idx p a q none = skip
-  moveOn idx p a q (some t) = cond (isOpen q) (pass 1) (moveAt idx p a q t)
-
-  -- section 5: what is done at a place at argument a with the call's key q
-  unfoldable pub move : Index → Place → ℕ → Key → Move
-  move idx p a q = moveOn idx p a q (tableAt idx p a)
-
-  module _ (Q : Call) where
-    -- section 5: the answer at n arguments from a on, with nothing stored
-    unfoldable pub answerFrom : ℕ → ℕ → Index → Place → Answer
-    answerFrom zero a idx p = ending idx p
-    answerFrom (suc n) a idx p = act (λ r. r) look a p (move idx p a (Q a)) (λ p′. answerFrom n (suc a) idx p′)
-
-    -- section 5: the answer of an index
-    abbrev pub answer : Index → Answer
-    answer idx = answerFrom (P .arity) 1 idx (line 0)
+  -- section 5: an argument at a table, whether bound or not
+  abbrev pub meet : Index → Place → ℕ → Key → Table → Move
+  meet idx p a q t = cond (isOpen q) (pass 1) (moveAt idx p a q t)
 
 -- section 5, what a walk gives back: answer, line number, whether all was stored, the index left
 pub record Result : Type 0 where
@@ -176,31 +162,43 @@ abbrev pub lineNumber : Place → ℕ
 lineNumber (line l) = l
 lineNumber (unstored os) = 0
 
--- section 4: a table that expansion is for
-abbrev pub isOnDemand : Option Table → Bool
-isOnDemand none = false
-isOnDemand (some (switch a es)) = false
-isOnDemand (some (onDemand a)) = true
-isOnDemand (some (dead a os)) = false
+-- section 5, no table left: the result there
+abbrev pub finish : State → Place → Result
+finish s p = result (lineNumber p) s (ending (s .index) p)
 
--- section 5, an expansion is due: on demand and bound
-abbrev pub due : Index → ℕ → ℕ → Key → Bool
-due idx l a q = not (isOpen q) && isOnDemand (find a (lineAt idx l .tables))
+-- section 3: how many tables an index has
+abbrev pub tablesIn : Index → ℕ
+tablesIn [] = 0
+tablesIn (l ∷ ls) = length (l .tables) + tablesIn ls
 
-module _ (P : Program) (cap : ℕ) where
-  -- section 5: the state in which the table for a is looked at
-  abbrev pub settle : State → Place → ℕ → Key → State
-  settle s (unstored os) a q = s
-  settle s (line l) a q = cond (s .storing && due (s .index) l a q) (attempt cap (s .index) (expand P (s .index) l a)) s
+module _ (P : Program) (cap : ℕ) (Q : Call) where
+  -- section 5, table i of line l is the first of the tables left: on demand and bound, it is expanded at that place, while expansions are stored
+  abbrev pub expandFirst : State → ℕ → ℕ → List Table → State
+  expandFirst s l i [] = s
+  expandFirst s l i (switch a es ∷ ts) = s
+  expandFirst s l i (onDemand a ∷ ts) = cond (s .storing && not (isOpen (Q a))) (attempt cap (s .index) (expandAt P (s .index) l i a)) s
+  expandFirst s l i (dead a os ∷ ts) = s
 
-  module _ (Q : Call) where
-    -- section 5, the walk at n arguments from a on: expands what is due, looks at that place
-    unfoldable pub walkFrom : ℕ → ℕ → State → Place → Result
-    walkFrom zero a s p = result (lineNumber p) s (ending (s .index) p)
-    walkFrom (suc n) a s p =
-        let t = settle s p a (Q a) in
-        act (result 0 t) lookAt a p (move P (t .index) p a (Q a)) (λ p′. walkFrom n (suc a) t p′)
+  -- section 5: the state in which table i of a place is looked at
+  abbrev pub ready : State → Place → ℕ → State
+  ready s (line l) i = expandFirst s l i (drop i (lineAt (s .index) l .tables))
+  ready s (unstored os) i = s
 
-    -- section 5: the walk from line 0 on
-    abbrev pub walk : Index → Result
-    walk idx = walkFrom (P .arity) 1 (record { storing = true; index = idx }) (line 0)
+  -- section 5, the first of the tables left is looked at; next goes on with the next table, first with the first table of a line
+  abbrev pub visit : State → Place → List Table → Result → (ℕ → Place → Result) → Result
+  visit s p [] next first = finish s p
+  visit s p (t ∷ ts) next first =
+      let a = argOf t in
+      make (result 0 s) lookAt a (meet P (s .index) p a (Q a) t) next (first a)
+
+  -- section 5, the walk at a place, where i tables were passed; a switch on a led there. n bounds the tables looked at
+  unfoldable pub walkOn : ℕ → State → Place → ℕ → ℕ → Result
+  walkOn zero s p a i = finish s p
+  walkOn (suc n) s p a i =
+      let t = ready s p i in
+      visit t p (drop i (tablesOf P (t .index) a p)) (walkOn n t p a (suc i)) (λ b q. walkOn n t q b 0)
+
+  -- section 5: the walk from line 0 on, first table. A walk that ends looks at each table of the index at most once, and in lines that it makes at one
+  -- for each argument, so the bound does not bind
+  abbrev pub walk : Index → Result
+  walk idx = walkOn (suc (P .arity + tablesIn idx)) (record { storing = true; index = idx }) (line 0) 0 0

@@ -16,7 +16,8 @@ ghost use Rattle.indexing_iter.specs.declared.Checked.the-variants.{Passed};
 ghost use Rattle.indexing.specs.Lists.{every};
 ghost use Rattle.indexing.specs.Build.{programOf, openAt, virtual};
 ghost use Rattle.indexing_scan.specs.Calls.{checkCall, callOf};
-ghost use Rattle.indexing_scan.specs.Walk.{demand, move, answerFrom, followNew, choose, unstored};
+ghost use Rattle.indexing_scan.specs.ByArgument.{move, answerFrom};
+ghost use Rattle.indexing_scan.specs.Walk.{demand, followNew, choose, unstored};
 ghost use Rattle.indexing_scan.specs.Unstored.{moveOf, Held, anyOpen, alike, likeTo, allSame, enteredBy, emptyBy, finishedBy};
 
 // What is done at an argument. The first number is what was done at the table: 1 unbound, 2 dead, 4 the only entry of

@@ -24,8 +24,8 @@ use Rattle.indexing_scan.specs.Calls.{callOf}
 use Rattle.indexing.specs.Columns.{wordsOf}
 use Rattle.indexing_scan.specs.Places.{At, isTable, behindTable, offsetsAt}
 use Rattle.indexing_scan.specs.Unstored.{moveOf, Held, finishedBy}
-use Rattle.indexing_scan.specs.Walk.{Chosen, Place, line, unstored, Move, skip, stop, pass, out, goto, Answer, look, act, enter, followNew, choose, demand, move, settle}
-use Rattle.indexing_scan.specs.Walk.{answerFrom}
+use Rattle.indexing_scan.specs.ByArgument.{act, move, settle, answerFrom}
+use Rattle.indexing_scan.specs.Walk.{Chosen, Place, line, unstored, Move, skip, stop, pass, out, goto, Answer, look, enter, followNew, choose, demand}
 use Rattle.indexing_scan.specs.declared.unstored.Finished.{Finished}
 use Rattle.indexing_scan.specs.declared.unstored.Narrowed.{Narrowed}
 use Rattle.indexing_scan.specs.declared.unstored.Narrowed.the-variants.{NoTable, Passed as PassedBy, Failed, Single, Bucket}

@@ -23,8 +23,10 @@ use Rattle.well_formed.proofs.Sound.{args-true, index-length}
 use Rattle.well_formed.proofs.WellFormed.{well-orderly, well-records, well-index}
 use Rattle.well_formed.specs.WellFormed.{indexOk, wellFormed}
 use Rattle.indexing_scan.proofs.ExpandedLaws.{at-start}
+use Rattle.indexing_scan.proofs.Steps.{walk-is}
+use Rattle.indexing_scan.specs.ByArgument.{walkFrom}
 use Rattle.indexing_scan.specs.Calls.{callOf, walkedBy, resultOf}
-use Rattle.indexing_scan.specs.Walk.{line, Result, walkFrom}
+use Rattle.indexing_scan.specs.Walk.{line, Result, walk}
 use Rattle.indexing_walk.specs.declared.Ended.{Ended}
 use Rattle.indexing_walk.specs.declared.Walking.{Walking}
 use Rattle.indexing_walk.specs.Answers.{toldBy}
@@ -113,9 +115,11 @@ module _ {code starts : List ℕ} {S : Settings} {b : List ℕ} {count lines : �
   pub starts-comes : (call : List ℕ) → Comes (resultOf classOf code starts S call b count) 0 (restOf code starts S call b first)
   unfolding resultOf restOf
   starts-comes call =
-      let W : Result = walkFrom P (capacityOf b) (callOf call) (S .arity) 1 (record { storing = true; index = idx }) (line 0) in
+      let W : Result = walk P (capacityOf b) (callOf call) idx in
       let n : S .arity ≡ S .arity + 1 - 1 = omega arith in
-      subst (Comes W 0) (ap (λ (x : ℕ). walkFrom P (capacityOf b) (callOf call) x 1 (record { storing = true; index = idx }) (line 0)) n) (comes-start W)
+      subst (Comes W 0)
+      (walk-is P (capacityOf b) (callOf call) idx (well-orderly P (known starts) idx sound) some-line
+      ∙ ap (λ (x : ℕ). walkFrom P (capacityOf b) (callOf call) x 1 (record { storing = true; index = idx }) (line 0)) n) (comes-start W)
 
 -- ---- the end
 

@@ -28,7 +28,8 @@ use Rattle.indexing_scan.proofs.Steps.{Left}
 use Rattle.indexing_scan.proofs.PlaceLaws.{at-demand, place-below, LeftDemand}
 use Rattle.indexing_scan.specs.Calls.{callOf}
 use Rattle.indexing_scan.specs.Places.{At}
-use Rattle.indexing_scan.specs.Walk.{line, Move, Result, move, settle}
+use Rattle.indexing_scan.specs.ByArgument.{move, settle}
+use Rattle.indexing_scan.specs.Walk.{line, Move, Result}
 use Rattle.indexing_walk.specs.declared.Walking.{Walking}
 use Rattle.indexing_walk.specs.Walking.{indexIn, Stands, Comes, restOf, turnsLeft, Went}
 use Rattle.indexing_walk.proofs.WalkLaws.{rest, turns}

@@ -37,7 +37,8 @@ use Rattle.indexing_scan.proofs.PlaceLaws.{at-record}
 use Rattle.indexing_scan.proofs.Steps.{Left}
 use Rattle.indexing_scan.specs.Calls.{callOf}
 use Rattle.indexing_scan.specs.Places.{At, headRec}
-use Rattle.indexing_scan.specs.Walk.{line, Result, walkFrom}
+use Rattle.indexing_scan.specs.ByArgument.{walkFrom}
+use Rattle.indexing_scan.specs.Walk.{line, Result}
 use Rattle.indexing_walk.specs.declared.Walking.{Walking}
 use Rattle.indexing_walk.specs.Walking.{indexIn, offAt, grownAt, Stands, Kept, Comes, restOf, turnsLeft, Went}
 use Rattle.indexing_walk.proofs.WalkLaws.{rest, found, at-left, expands, refuses, not-demand}

@@ -23,7 +23,8 @@ use Rattle.indexing_scan.proofs.Steps.{Left}
 use Rattle.indexing_scan.specs.Calls.{callOf, caseNumber}
 use Rattle.indexing_scan.specs.Places.{At, isTable, behindTable, behindLine, chooseRec}
 use Rattle.indexing_scan.specs.Unstored.{finishedBy}
-use Rattle.indexing_scan.specs.Walk.{Chosen, line, unstored, Move, stop, pass, out, goto, follow, choose, answerFrom, move, moveAt, settle, Result, result, fail, external, kindAt}
+use Rattle.indexing_scan.specs.ByArgument.{answerFrom, move, settle}
+use Rattle.indexing_scan.specs.Walk.{Chosen, line, unstored, Move, stop, pass, out, goto, follow, choose, moveAt, Result, result, fail, external, kindAt}
 use Rattle.indexing_scan.specs.declared.unstored.Finished.{Finished}
 use Rattle.indexing_walk.specs.declared.Looked.{Looked}
 use Rattle.indexing_walk.specs.declared.Turned.{Turned}

@@ -25,8 +25,9 @@ use Rattle.indexing_scan.proofs.UnstoredWalk.{walk-new}
 use Rattle.indexing_scan.proofs.Walks.{settle-quiet, settle-fits, settle-full, step}
 use Rattle.indexing_scan.specs.Agree.{Call}
 use Rattle.indexing_scan.specs.Places.{At}
-use Rattle.indexing_scan.specs.Walk.{Chosen, Step, Place, line, unstored, Move, skip, stop, pass, out, goto, fail, external, act, choose}
-use Rattle.indexing_scan.specs.Walk.{moveOn, move, ending, Result, lookAt, result, due, isOnDemand, settle, answerFrom, walkFrom}
+use Rattle.indexing_scan.specs.ByArgument.{act, moveOn, move, due, isOnDemand, settle, answerFrom, walkFrom}
+use Rattle.indexing_scan.specs.Walk.{Chosen, Step, Place, line, unstored, Move, skip, stop, pass, out, goto, fail, external, choose}
+use Rattle.indexing_scan.specs.Walk.{ending, Result, lookAt, result}
 
 pub comes-start : (W : Result) → Comes W 0 W
 comes-start W = record { kind = refl; offsets = refl; path = omega arith; number = refl; whole = refl; left = refl }

@@ -18,7 +18,8 @@ use Rattle.indexing.specs.Reading.{parse, pointerFrom}
 use Rattle.indexing.specs.Build.{programOf}
 use Rattle.indexing.specs.Builder.{capacityOf, stored}
 use Rattle.well_formed.specs.WellFormed.{argsOk, indexOk}
-use Rattle.indexing_scan.specs.Walk.{Chosen as WalkChosen, line, Result, walkFrom}
+use Rattle.indexing_scan.specs.ByArgument.{walkFrom}
+use Rattle.indexing_scan.specs.Walk.{Chosen as WalkChosen, line, Result}
 use Rattle.indexing_scan.specs.Calls.{callOf, caseNumber}
 use Rattle.indexing_scan.specs.Places.{At, behindLine, choiceOf}
 use Rattle.indexing_scan.specs.declared.stored.Chosen.{Chosen}

@@ -9,7 +9,8 @@ use Rattle.records.specs.Records.{recordsOf}
 use Rattle.indexing_iter.specs.Classes.{classOf}
 use Rattle.indexing.specs.Build.{programOf}
 use Rattle.indexing_scan.specs.Calls.{callOf}
-use Rattle.indexing_scan.specs.Walk.{answerFrom, unstored}
+use Rattle.indexing_scan.specs.ByArgument.{answerFrom}
+use Rattle.indexing_scan.specs.Walk.{unstored}
 use Rattle.indexing_scan.proofs.CallLaws.{call-records}
 use Rattle.indexing_scan.proofs.UnstoredLaws.{Stepped, goes-first, goes-step, goes-end, Finishing, finishing-next}
 use borrow.Author.Needs.{needs}
