@@ -16,7 +16,9 @@ use Rattle.indexing_iter.specs.declared.Checked.the-variants.{Passed, Refused}
 use Rattle.indexing_iter.specs.Clauses.{offsetsOf, known}
 use Rattle.indexing_iter.specs.Checks.{otherwise, refuse}
 use Rattle.indexing_iter.proofs.CheckLaws.{build-code}
-use Rattle.indexing.proofs.Grown.{Grown, grown-same, grown-size, grown-fits}
+use Rattle.indexing.proofs.Built.{built-length}
+use Rattle.indexing.proofs.Grown.{Grown, grown-same, grown-size, grown-fits, grown-length, grown-orderly}
+use Rattle.indexing.proofs.Order.{built-orderly}
 use Rattle.indexing.proofs.Stored.{stored-over}
 use Rattle.indexing.proofs.Tests.{both, le-true}
 use Rattle.indexing.specs.Build.{Program, programOf, build}
@@ -27,7 +29,9 @@ use Rattle.indexing.specs.Reading.{parse}
 use Rattle.well_formed.specs.WellFormed.{wellFormed}
 use Rattle.indexing_iter.proofs.CheckLaws.{Rising}
 use Rattle.indexing_scan.proofs.Rising.{args}
+use Rattle.indexing_scan.proofs.Steps.{walk-is}
 use Rattle.indexing_scan.specs.Agree.{Call}
+use Rattle.indexing_scan.specs.ByArgument.{walkBy}
 use Rattle.indexing_scan.specs.Calls.{argumentOk, callOf, checkIndex, Walked, caseNumber, walkedBy, resultOf, walkCall}
 use Rattle.indexing_scan.specs.Walk.{Step, Case, fail, external, sequence, variadic, line, Answer, Result, walk}
 use Rattle.claims.specs.Demand3.{Asked, Rises, no-more, then, argsOf, walked, walkFresh, selected, Unlimited, Accepted, Each}
@@ -42,7 +46,7 @@ rises : (n : ℕ) (xs : List ℕ) → Rising n xs → Rises n xs
 rises n [] r = no-more
 rises n (x ∷ xs) r = then (r .0) (rises (suc x) xs (r .1))
 
-rises-args : (n : ℕ) (ss : List Step) → Rising n (args ss) → Rises n (argsOf ss)
+pub rises-args : (n : ℕ) (ss : List Step) → Rising n (args ss) → Rises n (argsOf ss)
 rises-args n [] r = no-more
 rises-args n (s ∷ ss) r = then (r .0) (rises-args (suc (s .arg)) ss (r .1))
 
@@ -69,6 +73,11 @@ module _ (cls : ℕ → ℕ) (code starts : List ℕ) (S : Settings) (c : ℕ) (
   room : size (build P c os) ≤ cap
   unfolding indexOf
   room = built-room cls code starts S c buffer accepts
+
+  -- on an index that comes of the built one document 01's walk is the walk by arguments
+  by-tables : (cap : ℕ) {idx : Index} → Grown P cap (build P c os) idx → (room : ℕ) (Q : Call) → walk P room Q idx ≡ walkBy P room Q idx
+  by-tables cap {idx} came room Q = walk-is P room Q idx (grown-orderly P cap came (built-orderly P c os (is-ready .low) (is-ready .high) (is-ready .keyed)))
+      (omega (arith, built-length P c os, grown-length P cap came))
 
   -- what a list of walks keeps: the index and count handed on, and the calls accepted before
   record Holds (before : List (List ℕ)) (index : List ℕ) (count : ℕ) : Type 0 where
@@ -101,9 +110,9 @@ module _ (cls : ℕ → ℕ) (code starts : List ℕ) (S : Settings) (c : ℕ) (
       Q = callOf (q .call)
 
       -- the walk is that of the index which the buffer holds
-      got-is : resultOf cls code starts S (q .call) index count ≡ walk P cap Q (h .idx)
+      got-is : resultOf cls code starts S (q .call) index count ≡ walkBy P cap Q (h .idx)
       unfolding resultOf
-      got-is = rw (capacity-is, parse-is) refl
+      got-is = rw (capacity-is, parse-is) (by-tables cap came cap Q)
 
       -- a walk is refused with 10 or 11, or accepted
       by-outcome : (X : Walked → Type 0)
@@ -135,21 +144,23 @@ module _ (cls : ℕ → ℕ) (code starts : List ℕ) (S : Settings) (c : ℕ) (
       selected-is : selected cls code starts S c passed ≡ got .found .offsets
       selected-is = take-at (got .found .offsets) (drop (length (got .found .offsets)) (q .out)) (length (got .found .offsets)) refl
 
-      found-is : got .found ≡ walk P cap Q (h .idx) .found
+      found-is : got .found ≡ walkBy P cap Q (h .idx) .found
       found-is = ap (λ (r : Result). r .found) got-is
 
-      fresh-is : (m : ℕ) → got .found ≡ walkFresh cls code starts S c q m .found
+      fresh-by : (m : ℕ) → walkFresh cls code starts S c q m ≡ walkBy P m Q (build P c os)
       unfolding indexOf
-      fresh-is m = found-is ∙ one .fresh m
+      fresh-by m = by-tables cap grown-same m Q
+
+      fresh-is : (m : ℕ) → got .found ≡ walkFresh cls code starts S c q m .found
+      fresh-is m = found-is ∙ one .fresh m ∙ ap (λ (r : Result). r .found) (sym (fresh-by m))
 
       -- the answer is the fresh index's with unlimited space
       is-fresh : Unlimited cls code starts S c q passed
-      unfolding indexOf
       is-fresh =
-          let e : Enough (λ m. walkFresh cls code starts S c q m .whole) = enough P Q (P .arity) 1 (build P c os) (line 0) in
+          let e : Enough (λ m. walkBy P m Q (build P c os) .whole) = enough P Q (P .arity) 1 (build P c os) (line 0) in
           record {
             room = e .room;
-            all-stored = e .stored;
+            all-stored = λ m k. ap (λ (r : Result). r .whole) (fresh-by m) ∙ e .stored m k;
             same = λ m. record {
               case = ap (λ (r : Answer). caseNumber (r .kind)) (fresh-is m);
               count = ap (λ (r : Answer). length (r .offsets)) (fresh-is m);
@@ -157,10 +168,10 @@ module _ (cls : ℕ → ℕ) (code starts : List ℕ) (S : Settings) (c : ℕ) (
               tables = ap (λ (r : Answer). length (r .path)) (fresh-is m);
             };
             arguments = λ m. rises-args 1 (walkFresh cls code starts S c q m .found .path)
-                (subst (λ (r : Answer). Rising 1 (args (r .path))) (one .fresh m) (one .path));
+                (subst (λ (r : Answer). Rising 1 (args (r .path))) (sym found-is ∙ fresh-is m) (one .path));
           }
 
-      left-is : got .left ≡ walk P cap Q (h .idx) .left
+      left-is : got .left ≡ walkBy P cap Q (h .idx) .left
       left-is = ap (λ (r : Result). r .left) got-is
 
       -- a call made again leaves the index
@@ -171,26 +182,25 @@ module _ (cls : ℕ → ℕ) (code starts : List ℕ) (S : Settings) (c : ℕ) (
             ap size e ∙ sym (h .counts),
           )
 
-      is-accepted : Accepted cls code starts S c before index count q passed
+      is-accepted : Accepted cls code starts S c index count q passed
       is-accepted = record {
         all = rw (selected-is, found-is) (one .all);
         in-order = rw (selected-is, found-is) (one .order);
-        once = rw (selected-is, found-is) (rises 1 (walk P cap Q (h .idx) .found .offsets) (one .once));
-        fails = λ e. one .fails (case-fail (walk P cap Q (h .idx) .found .kind) (ap (λ (r : Answer). caseNumber (r .kind)) (sym found-is) ∙ e));
+        once = rw (selected-is, found-is) (rises 1 (walkBy P cap Q (h .idx) .found .offsets) (one .once));
+        fails = λ e. one .fails (case-fail (walkBy P cap Q (h .idx) .found .kind) (ap (λ (r : Answer). caseNumber (r .kind)) (sym found-is) ∙ e));
         fresh = is-fresh;
         line = refl;
         mark = refl;
         records = refl;
         left = refl;
-        again = is-again;
       }
 
       -- the next walk gets the index left, with its count
       holds-next : Holds (q .call ∷ before) (passed .index) (passed .records)
       holds-next = record {
-        idx = walk P cap Q (h .idx) .left;
+        idx = walkBy P cap Q (h .idx) .left;
         kept = kept-next P c os (is-ready .rising) (is-ready .keyed) cap (h .idx) came Q (map callOf before) (h .kept);
-        holds = rw (left-is, h .holds) (stored-over (S .dynamic) (h .idx) buffer (walk P cap Q (h .idx) .left)
+        holds = rw (left-is, h .holds) (stored-over (S .dynamic) (h .idx) buffer (walkBy P cap Q (h .idx) .left)
             (grown-size P cap (grows P c os (is-ready .rising) (is-ready .keyed) cap (h .idx) came Q)));
         counts = ap size left-is;
       }
@@ -199,7 +209,8 @@ module _ (cls : ℕ → ℕ) (code starts : List ℕ) (S : Settings) (c : ℕ) (
   abbrev Next : List Asked → List (List ℕ) → List ℕ → ℕ → Asked → Walked → Type 0
   Next qs before index count q w =
       (w .number ≡ 12 → ⊥)
-      × (w .number ≡ 0 → Accepted cls code starts S c before index count q w)
+      × (w .number ≡ 0 → Accepted cls code starts S c index count q w)
+      × (List·Memᴰ (q .call) before → (w .index ≡ index) × (countAfter cls code starts S c w count ≡ count))
       × Every cls code starts S c (callsAfter cls code starts S c w q before) (w .index) (countAfter cls code starts S c w count) qs
 
   every-from : (qs : List Asked) (before : List (List ℕ)) (index : List ℕ) (count : ℕ) → Holds before index count
@@ -209,14 +220,15 @@ module _ (cls : ℕ → ℕ) (code starts : List ℕ) (S : Settings) (c : ℕ) (
       let rest : Every cls code starts S c before index count qs = every-from qs before index count h in
       let next : Next qs before index count q (walked cls code starts S c index count q) =
       by-outcome before index count h q (Next qs before index count q)
-      ((λ e. omega arith), (λ e. absurd (omega arith)), rest)
-      ((λ e. omega arith), (λ e. absurd (omega arith)), rest) (
+      ((λ e. omega arith), (λ e. absurd (omega arith)), (λ m. (refl, refl)), rest)
+      ((λ e. omega arith), (λ e. absurd (omega arith)), (λ m. (refl, refl)), rest) (
         (λ e. omega arith),
         (λ e. is-accepted before index count h q),
+        is-again before index count h q,
         every-from qs (q .call ∷ before) (passed before index count h q .index) (passed before index count h q .records)
             (holds-next before index count h q),
       ) in
-      (record { not-12 = next .0; accepted = next .1 }, next .2)
+      (record { not-12 = next .0; accepted = next .1; again = next .2 }, next .3)
 
   holds-start : Holds [] (buildCall cls code starts S c buffer .index) (buildCall cls code starts S c buffer .count)
   unfolding indexOf

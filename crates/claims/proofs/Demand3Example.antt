@@ -15,10 +15,10 @@ use Rattle.indexing_iter.specs.Clauses.{clausesOf, clauseAt, keyOf, known}
 use Rattle.indexing_iter.specs.Checks.{risingBelow, hasBody, recordBad, checkRecords, checkClause, checkClauses, openSomewhere, checkClausesOf, checkCode, checkBuild}
 use Rattle.indexing.proofs.Tests.{true-T, and-true}
 use Rattle.indexing.specs.Build.{build}
-use Rattle.indexing.specs.Expand.{expand}
+use Rattle.indexing.specs.Expand.{expandAt}
 use Rattle.indexing.specs.Builder.{capacityOf, stored, indexOf, buildCall}
 use Rattle.indexing.specs.Lists.{every}
-use Rattle.indexing_scan.specs.ByArgument.{move, answerFrom, walkFrom}
+use Rattle.indexing_scan.specs.Walk.{walkOn}
 use Rattle.indexing_scan.specs.Calls.{argumentOk, callOf, resultOf, walkCall}
 use Rattle.claims.specs.Demand3.{Every}
 use Rattle.claims.specs.Example.{built, outcomesFrom, outcomes, walks, listed, bothAlike, allListed}
@@ -27,7 +27,7 @@ use Rattle.claims.proofs.Demand3.{demand3}
 
 -- what each walk gives back, by computation
 pub worked-walks : T (allListed listed)
-unfolding code starts built outcomesFrom outcomes walks listed bothAlike allListed decode encodeRec encode recs recordsOf classOf argOfClass keyIn clausesOf clauseAt keyOf known risingBelow hasBody recordBad checkRecords checkClause checkClauses openSomewhere checkClausesOf checkCode checkBuild expand build stored indexOf buildCall move answerFrom walkFrom argumentOk callOf resultOf walkCall
+unfolding code starts built outcomesFrom outcomes walks listed bothAlike allListed decode encodeRec encode recs recordsOf classOf argOfClass keyIn clausesOf clauseAt keyOf known risingBelow hasBody recordBad checkRecords checkClause checkClauses openSomewhere checkClausesOf checkCode checkBuild expandAt build stored indexOf buildCall walkOn argumentOk callOf resultOf walkCall
 worked-walks = tt
 
 -- ---- the hypotheses of demand 3 hold, so that it speaks of these walks
@@ -42,7 +42,7 @@ unfolding code encode encodeRec
 code-bytes = below 256 code (omega arith) refl
 
 fits : (capacity : ℕ) → 12 ≤ capacity → built capacity .number ≡ 0
-unfolding code starts built encodeRec encode decode recs recordsOf classOf argOfClass keyIn clausesOf clauseAt keyOf known risingBelow hasBody recordBad checkRecords checkClause checkClauses openSomewhere checkClausesOf checkCode checkBuild expand build indexOf buildCall
+unfolding code starts built encodeRec encode decode recs recordsOf classOf argOfClass keyIn clausesOf clauseAt keyOf known risingBelow hasBody recordBad checkRecords checkClause checkClauses openSomewhere checkClausesOf checkCode checkBuild build indexOf buildCall
 fits capacity h =
     let buffer : List ℕ = replicate (16 * capacity) 0 in
     let n : length buffer ≡ 16 * capacity = length-replicate (16 * capacity) 0 in

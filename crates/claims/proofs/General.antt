@@ -1,94 +1,131 @@
--- What holds of the walk on every index that number 12 accepts, whether it was built here or not.
+-- What holds of the walk on every index that number 12 accepts, whether it was built here or not: through the walk by arguments.
 -- Assumes nothing.
-use mathlib.Core.Path.{_≡_, sym, _∙_}
-use mathlib.Core.Bool.{Bool, true, false, not}
+use mathlib.Core.Path.{_≡_, sym, _∙_, ap, subst}
+use mathlib.Core.Bool.{Bool, true}
 use mathlib.Core.List.{List, [], _∷_}
-use mathlib.Core.Option.{Option, some}
+use mathlib.Core.Option.{some}
 use Prim.Native.Nat.{ℕ, zero, suc, _<_}
 use native.Mathlib.Omega.{arith}
-use lib.ListN.{length}
+use lib.ListN.{length, drop}
 use Rattle.records.specs.declared.Rec.{Rec}
-use Rattle.indexing_iter.specs.declared.OptArgIndexKey.{OptArgIndexKey as Key}
-use Rattle.indexing_iter.specs.Keys.{isOpen}
-use Rattle.indexing.proofs.Grown.{Grown}
-use Rattle.indexing.proofs.Order.{Orderly, orderly-closed}
+use Rattle.indexing.proofs.Expand.{length-expand}
+use Rattle.indexing.proofs.Grown.{Grown, grown-same, grown-trans, grown-length, grown-orderly}
+use Rattle.indexing.proofs.Order.{Orderly, orderly-expand, orderly-closed, find-drop, expand-at}
 use Rattle.indexing.proofs.Pointers.{Closed}
-use Rattle.indexing.proofs.Tests.{and-true}
 use Rattle.indexing.specs.Build.{Program}
-use Rattle.indexing.specs.Expand.{expand}
-use Rattle.indexing.specs.Lines.{Table, onDemand, Index, lineAt, find, modeOf, records}
+use Rattle.indexing.specs.Expand.{expand, expandAt}
+use Rattle.indexing.specs.Lines.{Table, onDemand, Index, lineAt, find}
 use Rattle.indexing.specs.Reading.{parse}
 use Rattle.well_formed.proofs.Sound.{index-length, ok-parse, ok-well, grown-ok}
 use Rattle.well_formed.proofs.WellFormed.{well-orderly, well-index}
-use Rattle.well_formed.specs.WellFormed.{keyOk, indexOk, wellFormed}
+use Rattle.well_formed.specs.WellFormed.{indexOk}
 use Rattle.indexing_scan.proofs.Again.{again}
-use Rattle.indexing_iter.proofs.CheckLaws.{Rising}
-use Rattle.indexing_scan.proofs.Rising.{args, path-rising}
+use Rattle.indexing_scan.proofs.Rising.{path-rising}
 use Rattle.indexing_scan.proofs.Same.{kept, same-from}
-use Rattle.indexing_scan.proofs.Steps.{steps-is-walk}
-use Rattle.indexing_scan.proofs.Walks.{has-line, on-demand, walk-answer, walk-grown, grown-answer}
+use Rattle.indexing_scan.proofs.Steps.{bound-is-walk, walk-is}
+use Rattle.indexing_scan.proofs.Walks.{has-line, walk-answer, walk-grown, grown-answer}
 use Rattle.indexing_scan.specs.Agree.{Call}
-use Rattle.indexing_scan.specs.Steps.{steps}
-use Rattle.indexing_scan.specs.ByArgument.{answer, isOnDemand, due}
-use Rattle.indexing_scan.specs.Walk.{line, walk}
+use Rattle.indexing_scan.specs.ByArgument.{answer, walkBy}
+use Rattle.indexing_scan.specs.Walk.{Answer, Result, line, walk}
+use Rattle.claims.specs.Demand3.{Rises, argsOf}
+use Rattle.claims.specs.General.{leftBy, Well, Bounded, T1, T2, T2Left, T4, T5, Checked, T7}
+use Rattle.claims.proofs.Demand3.{rises-args}
 
 -- a line that has a table is one of the index
-has-table : (idx : Index) (l a : ℕ) (t : Table) → find a (lineAt idx l .tables) ≡ some t → l < length idx
-has-table [] l a t e = let z : _≡_ {A = ℕ} 0 1 = cc in absurd (omega arith)
-has-table (x ∷ xs) zero a t e = omega arith
-has-table (x ∷ xs) (suc l) a t e = omega (arith, has-table xs l a t e)
+has-table : (idx : Index) (l i : ℕ) (t : Table) (ts : List Table) → drop i (lineAt idx l .tables) ≡ t ∷ ts → l < length idx
+has-table [] l zero t ts e = let z : _≡_ {A = ℕ} 0 1 = cc in absurd (omega arith)
+has-table [] l (suc i) t ts e = let z : _≡_ {A = ℕ} 0 1 = cc in absurd (omega arith)
+has-table (x ∷ xs) zero i t ts e = omega arith
+has-table (x ∷ xs) (suc l) i t ts e = omega (arith, has-table xs l i t ts e)
 
-module _ (P : Program) (known : ℕ → Bool) (rs : List Rec) (well : wellFormed (P .arity) (P .dynamic) known rs ≡ true) where
-  orderly : Orderly P (parse rs)
-  orderly = well-orderly P known (parse rs) (well-index P known rs well)
+-- ---- an orderly index
 
-  closed : Closed (parse rs)
-  closed = orderly-closed P (parse rs) orderly
+module _ (P : Program) (idx : Index) (o : Orderly P idx) (h : 0 < length idx) where
+  closed : Closed idx
+  closed = orderly-closed P idx o
 
-  some-line : 0 < length (parse rs)
-  some-line = index-length P known (parse rs) (well-index P known rs well)
+  module _ (cap : ℕ) (Q : Call) where
+    is-by : walk P cap Q idx ≡ walkBy P cap Q idx
+    is-by = walk-is P cap Q idx o h
 
-  -- T1: what is stored does not matter: the answer is that of the index handed in, at every capacity
-  pub t1-answer : (cap : ℕ) (Q : Call) → walk P cap Q (parse rs) .found ≡ answer P Q (parse rs)
-  t1-answer cap Q = walk-answer P cap Q (P .arity) 1 (record { storing = true; index = parse rs }) (omega arith) closed (has-line some-line)
+    -- the answer is the one with nothing stored
+    answers : walk P cap Q idx .found ≡ answer P Q idx
+    answers =
+        ap (λ (r : Result). r .found) is-by
+        ∙ walk-answer P cap Q (P .arity) 1 (record { storing = true; index = idx }) (omega arith) closed (has-line h)
 
-  pub t1 : (cap cap′ : ℕ) (Q : Call) → walk P cap Q (parse rs) .found ≡ walk P cap′ Q (parse rs) .found
-  t1 cap cap′ Q = t1-answer cap Q ∙ sym (t1-answer cap′ Q)
+    came : Grown P cap idx (walk P cap Q idx .left)
+    came = subst (λ (r : Result). Grown P cap idx (r .left)) (sym is-by)
+        (walk-grown P cap Q (P .arity) 1 (record { storing = true; index = idx }) closed (has-line h))
 
-  -- T2: an expansion that is due changes no call's answer
-  pub t2 : (l a : ℕ) (q : Key) → due (parse rs) l a q ≡ true → (Q : Call) → answer P Q (expand P (parse rs) l a) ≡ answer P Q (parse rs)
-  t2 l a q e Q =
-      let t : Option Table = find a (lineAt (parse rs) l .tables) in
-      let d = on-demand t (and-true (not (isOpen q)) (isOnDemand t) e .1) in
-      same-from P (parse rs) l a (d .0) (has-table (parse rs) l a (onDemand (d .0)) (d .1)) (d .1) closed Q (P .arity) 1 (omega arith) (kept some-line)
+-- the index that walks leave comes of the one that they got by expansions that fit
+came-by : (P : Program) (cap : ℕ) (Qs : List Call) (idx : Index) → Orderly P idx → 0 < length idx → Grown P cap idx (leftBy P cap Qs idx)
+came-by P cap [] idx o h = grown-same
+came-by P cap (Q ∷ Qs) idx o h =
+    let g : Grown P cap idx (walk P cap Q idx .left) = came P idx o h cap Q in
+    grown-trans P cap g (came-by P cap Qs (walk P cap Q idx .left) (grown-orderly P cap g o) (omega (arith, grown-length P cap g)))
 
-  came : (cap : ℕ) (Q : Call) → Grown P cap (parse rs) (walk P cap Q (parse rs) .left)
-  came cap Q = walk-grown P cap Q (P .arity) 1 (record { storing = true; index = parse rs }) closed (has-line some-line)
+-- ---- a well-formed one
 
-  -- so the index that a walk leaves answers every call as the one that it got
-  pub t2-left : (cap : ℕ) (Q R : Call) → answer P R (walk P cap Q (parse rs) .left) ≡ answer P R (parse rs)
-  t2-left cap Q R = grown-answer P cap (came cap Q) closed R (P .arity) 1 0 (omega arith) some-line
+module _ (P : Program) (known : ℕ → Bool) (rs : List Rec) where
+  orderly : Well P known rs → Orderly P (parse rs)
+  orderly well = well-orderly P known (parse rs) (well-index P known rs well)
 
-  -- the walk by arguments is document 01's walk, table by table
-  pub by-tables : (cap : ℕ) (Q : Call) → steps P cap Q (parse rs) ≡ walk P cap Q (parse rs)
-  by-tables cap Q = steps-is-walk P cap Q (parse rs) orderly some-line
+  some-line : Well P known rs → 0 < length (parse rs)
+  some-line well = index-length P known (parse rs) (well-index P known rs well)
 
-  -- T4: no two tables looked at are for one argument
-  pub t4 : (cap : ℕ) (Q : Call) → Rising 1 (args (walk P cap Q (parse rs) .found .path))
-  t4 cap Q = rw (t1-answer cap Q) (path-rising P Q (P .arity) 1 (parse rs) (line 0))
+  -- document 01's walk is the walk by arguments
+  pub by-tables : Well P known rs → (cap : ℕ) (Q : Call) → walk P cap Q (parse rs) ≡ walkBy P cap Q (parse rs)
+  by-tables well cap Q = walk-is P cap Q (parse rs) (orderly well) (some-line well)
 
-  -- T5: the same call made again, at once or after further expansions that fit, leaves the index
-  pub t5 : (cap : ℕ) (Q : Call) (last : Index) → Grown P cap (walk P cap Q (parse rs) .left) last → walk P cap Q last .left ≡ last
-  t5 cap Q last g = again P cap Q (P .arity) 1 (parse rs) last closed (has-line some-line) g
+  pub bounded : Bounded P known rs
+  bounded well n cap Q k = bound-is-walk P cap Q n (parse rs) k (orderly well) (some-line well) ∙ sym (by-tables well cap Q)
 
-  -- T7: the index left is well formed, and its records stand for it, where the code passed its checks: its bound keys are in range, its offsets small
-  module _ (small : (o : ℕ) → known o ≡ true → o < 0x8000_0000) (keys : (o a : ℕ) → isOpen (P .keyOf o a) ≡ false → keyOk (P .keyOf o a) ≡ true)
-      (cap : ℕ) (Q : Call) where
-    sound : indexOk (P .arity) (P .dynamic) known (walk P cap Q (parse rs) .left) ≡ true
-    sound = grown-ok P known keys cap (came cap Q) (well-index P known rs well)
+  pub t1 : T1 P known rs
+  t1 well cap cap′ Q = answers P (parse rs) (orderly well) (some-line well) cap Q ∙ sym (answers P (parse rs) (orderly well) (some-line well) cap′ Q)
 
-    pub t7 : wellFormed (P .arity) (P .dynamic) known (records (modeOf (P .dynamic)) 0 (walk P cap Q (parse rs) .left)) ≡ true
-    t7 = ok-well P known small (walk P cap Q (parse rs) .left) sound
+  pub t2 : T2 P known rs
+  t2 well l i a ts e cap Q =
+      let idx : Index = parse rs in
+      let o : Orderly P idx = orderly well in
+      let h : 0 < length idx = some-line well in
+      let k : l < length idx = has-table idx l i (onDemand a) ts e in
+      let d : find a (lineAt idx l .tables) ≡ some (onDemand a) = find-drop (P .arity) 1 i (onDemand a) (lineAt idx l .tables) ts (o .rises l k) e in
+      ap (λ (x : Index). walk P cap Q x .found) (expand-at P (P .arity) 1 idx l i (onDemand a) ts (o .rises l k) e)
+      ∙ answers P (expand P idx l a) (orderly-expand P idx l a a k d o) (omega (arith, length-expand P idx l a)) cap Q
+      ∙ same-from P idx l a a k d (closed P idx o h) Q (P .arity) 1 (omega arith) (kept h)
+      ∙ sym (answers P idx o h cap Q)
 
-    pub t7-parse : parse (records (modeOf (P .dynamic)) 0 (walk P cap Q (parse rs) .left)) ≡ walk P cap Q (parse rs) .left
-    t7-parse = ok-parse P known small (walk P cap Q (parse rs) .left) sound
+  pub t2-left : T2Left P known rs
+  t2-left well cap room Qs R =
+      let o : Orderly P (parse rs) = orderly well in
+      let h : 0 < length (parse rs) = some-line well in
+      let g : Grown P cap (parse rs) (leftBy P cap Qs (parse rs)) = came-by P cap Qs (parse rs) o h in
+      answers P (leftBy P cap Qs (parse rs)) (grown-orderly P cap g o) (omega (arith, grown-length P cap g)) room R
+      ∙ grown-answer P cap g (closed P (parse rs) o h) R (P .arity) 1 0 (omega arith) h
+      ∙ sym (answers P (parse rs) o h room R)
+
+  pub t4 : T4 P known rs
+  t4 well cap Q = subst (λ (r : Answer). Rises 1 (argsOf (r .path))) (sym (answers P (parse rs) (orderly well) (some-line well) cap Q))
+      (rises-args 1 (answer P Q (parse rs) .path) (path-rising P Q (P .arity) 1 (parse rs) (line 0)))
+
+  pub t5 : T5 P known rs
+  t5 well cap Q Qs =
+      let idx : Index = parse rs in
+      let o : Orderly P idx = orderly well in
+      let h : 0 < length idx = some-line well in
+      let one : Index = walk P cap Q idx .left in
+      let g : Grown P cap idx one = came P idx o h cap Q in
+      let one-o : Orderly P one = grown-orderly P cap g o in
+      let one-h : 0 < length one = omega (arith, grown-length P cap g) in
+      let last : Index = leftBy P cap Qs one in
+      let k : Grown P cap one last = came-by P cap Qs one one-o one-h in
+      ap (λ (r : Result). r .left) (walk-is P cap Q last (grown-orderly P cap k one-o) (omega (arith, grown-length P cap k)))
+      ∙ again P cap Q (P .arity) 1 idx last (closed P idx o h) (has-line h) (subst (λ (r : Result). Grown P cap (r .left) last) (by-tables well cap Q) k)
+
+  pub t7 : T7 P known rs
+  t7 well checked cap Qs =
+      let g : Grown P cap (parse rs) (leftBy P cap Qs (parse rs)) = came-by P cap Qs (parse rs) (orderly well) (some-line well) in
+      let sound : indexOk (P .arity) (P .dynamic) known (leftBy P cap Qs (parse rs)) ≡ true =
+          grown-ok P known (checked .keys) cap g (well-index P known rs well) in
+      (ok-well P known (checked .small) (leftBy P cap Qs (parse rs)) sound, ok-parse P known (checked .small) (leftBy P cap Qs (parse rs)) sound)

@@ -19,9 +19,8 @@ use Rattle.indexing_iter.proofs.CheckLaws.{Rising}
 use Rattle.indexing_scan.proofs.Rising.{args, path-rising}
 use Rattle.indexing_scan.proofs.Walks.{has-line, grown-answer, walk-answer, walk-grown}
 use Rattle.indexing_scan.specs.Agree.{Call, agree}
-use Rattle.indexing_scan.specs.ByArgument.{act, move, answerFrom, answer}
+use Rattle.indexing_scan.specs.ByArgument.{act, move, answerFrom, answer, walkBy}
 use Rattle.indexing_scan.specs.Walk.{Place, line, unstored, Move, skip, stop, pass, out, goto, fail, Answer, look}
-use Rattle.indexing_scan.specs.Walk.{walk}
 use Rattle.claims.proofs.Built.{built-selects}
 use Rattle.claims.proofs.Selects.{rising-sublist}
 
@@ -45,28 +44,28 @@ module _ (P : Program) (c : ℕ) (os : List ℕ) (rising : Rising 1 os) (keyed :
   -- what holds of a walk with the call Q of the index idx, after walks with the calls before
   pub record Each (before : List Call) (idx : Index) (Q : Call) : Type 0 where
     -- the answer is the fresh index's, at any capacity, so with unlimited space too
-    pub fresh : (room : ℕ) → walk P cap Q idx .found ≡ walk P room Q (build P c os) .found
+    pub fresh : (room : ℕ) → walkBy P cap Q idx .found ≡ walkBy P room Q (build P c os) .found
     -- every clause that agrees is selected, once and in source order
-    pub all : keep (agree P Q) (walk P cap Q idx .found .offsets) ≡ keep (agree P Q) os
-    pub order : Sublistᴰ (walk P cap Q idx .found .offsets) os
-    pub once : Rising 1 (walk P cap Q idx .found .offsets)
+    pub all : keep (agree P Q) (walkBy P cap Q idx .found .offsets) ≡ keep (agree P Q) os
+    pub order : Sublistᴰ (walkBy P cap Q idx .found .offsets) os
+    pub once : Rising 1 (walkBy P cap Q idx .found .offsets)
     -- Fail only if none agrees
-    pub fails : walk P cap Q idx .found .kind ≡ fail → keep (agree P Q) os ≡ []
+    pub fails : walkBy P cap Q idx .found .kind ≡ fail → keep (agree P Q) os ≡ []
     -- no two tables looked at are for one argument
-    pub path : Rising 1 (args (walk P cap Q idx .found .path))
+    pub path : Rising 1 (args (walkBy P cap Q idx .found .path))
     -- a call made again leaves the index
-    pub again : List·Memᴰ Q before → walk P cap Q idx .left ≡ idx
+    pub again : List·Memᴰ Q before → walkBy P cap Q idx .left ≡ idx
 
   -- the walks of a list, one after the other: with a call, or refused (none), which leaves the index
   abbrev pub Every : List Call → Index → List (Option Call) → Type 0
   Every before idx [] = Unit {0}
   Every before idx (none ∷ Qs) = Every before idx Qs
-  Every before idx (some Q ∷ Qs) = Each before idx Q × Every (Q ∷ before) (walk P cap Q idx .left) Qs
+  Every before idx (some Q ∷ Qs) = Each before idx Q × Every (Q ∷ before) (walkBy P cap Q idx .left) Qs
 
   -- what a list of walks keeps
   pub record Kept (before : List Call) (idx : Index) : Type 0 where
     pub came : Grown P cap (build P c os) idx
-    pub settled : (Q : Call) → List·Memᴰ Q before → (last : Index) → Grown P cap idx last → walk P cap Q last .left ≡ last
+    pub settled : (Q : Call) → List·Memᴰ Q before → (last : Index) → Grown P cap idx last → walkBy P cap Q last .left ≡ last
 
   module _ (idx : Index) (came : Grown P cap (build P c os) idx) (Q : Call) where
     shut : Closed idx
@@ -75,11 +74,11 @@ module _ (P : Program) (c : ℕ) (os : List ℕ) (rising : Rising 1 os) (keyed :
     some-line : 0 < length idx
     some-line = omega (arith, built-length P c os, grown-length P cap came)
 
-    found-is : walk P cap Q idx .found ≡ answer P Q (build P c os)
+    found-is : walkBy P cap Q idx .found ≡ answer P Q (build P c os)
     found-is = walk-answer P cap Q (P .arity) 1 (record { storing = true; index = idx }) (omega arith) shut (has-line some-line)
         ∙ grown-answer P cap came (built-closed P c os keyed) Q (P .arity) 1 0 (omega arith) (built-length P c os)
 
-    pub each : (before : List Call) → (List·Memᴰ Q before → walk P cap Q idx .left ≡ idx) → Each before idx Q
+    pub each : (before : List Call) → (List·Memᴰ Q before → walkBy P cap Q idx .left ≡ idx) → Each before idx Q
     each before same = record {
       fresh = λ room. found-is ∙ sym (walk-answer P room Q (P .arity) 1 (record { storing = true; index = build P c os }) (omega arith)
           (built-closed P c os keyed) (has-line (built-length P c os)));
@@ -91,16 +90,16 @@ module _ (P : Program) (c : ℕ) (os : List ℕ) (rising : Rising 1 os) (keyed :
       again = same;
     }
 
-    pub grows : Grown P cap idx (walk P cap Q idx .left)
+    pub grows : Grown P cap idx (walkBy P cap Q idx .left)
     grows = walk-grown P cap Q (P .arity) 1 (record { storing = true; index = idx }) shut (has-line some-line)
 
-    pub kept-next : (before : List Call) → Kept before idx → Kept (Q ∷ before) (walk P cap Q idx .left)
+    pub kept-next : (before : List Call) → Kept before idx → Kept (Q ∷ before) (walkBy P cap Q idx .left)
     kept-next before k = record {
       came = grown-trans P cap came grows;
       settled = λ R m last g. go R last g (List·Memᴰ·cases-cons m);
     }
       where
-        go : (R : Call) (last : Index) → Grown P cap (walk P cap Q idx .left) last → (R ≡ Q) ⊎ List·Memᴰ R before → walk P cap R last .left ≡ last
+        go : (R : Call) (last : Index) → Grown P cap (walkBy P cap Q idx .left) last → (R ≡ Q) ⊎ List·Memᴰ R before → walkBy P cap R last .left ≡ last
         go R last g (inl e) = rw e (again P cap Q (P .arity) 1 idx last shut (has-line some-line) g)
         go R last g (inr m) = k .settled R m last (grown-trans P cap grows g)
 
@@ -109,7 +108,7 @@ module _ (P : Program) (c : ℕ) (os : List ℕ) (rising : Rising 1 os) (keyed :
   runs-from (none ∷ Qs) before idx k = runs-from Qs before idx k
   runs-from (some Q ∷ Qs) before idx k = (
     each idx (k .came) Q before (λ m. k .settled Q m idx grown-same),
-    runs-from Qs (Q ∷ before) (walk P cap Q idx .left) (kept-next idx (k .came) Q before k),
+    runs-from Qs (Q ∷ before) (walkBy P cap Q idx .left) (kept-next idx (k .came) Q before k),
   )
 
   pub kept-start : Kept [] (build P c os)

@@ -7,12 +7,12 @@ use Rattle.indexing_iter.specs.Keys.{keyIn}
 use Rattle.indexing_iter.specs.Clauses.{clausesOf, clauseAt, keyOf, known}
 use Rattle.indexing_iter.specs.Checks.{risingBelow, hasBody, recordBad, checkRecords, checkClause, checkClauses, openSomewhere, checkClausesOf, checkCode, checkBuild}
 use Rattle.indexing.specs.Build.{build}
-use Rattle.indexing.specs.Expand.{expand}
+use Rattle.indexing.specs.Expand.{expandAt}
 use Rattle.indexing.specs.Builder.{stored, indexOf, buildCall}
-use Rattle.indexing_scan.specs.ByArgument.{move, answerFrom, walkFrom}
+use Rattle.indexing_scan.specs.Walk.{walkOn}
 use Rattle.indexing_scan.specs.Calls.{argumentOk, callOf, resultOf, walkCall}
 use Rattle.claims.specs.Show.{code, starts, rows, shown, allAlike}
 
 pub worked : T (allAlike rows)
-unfolding code starts rows shown allAlike decode encodeRec encode recs recordsOf classOf argOfClass keyIn clausesOf clauseAt keyOf known risingBelow hasBody recordBad checkRecords checkClause checkClauses openSomewhere checkClausesOf checkCode checkBuild expand build stored indexOf buildCall move answerFrom walkFrom argumentOk callOf resultOf walkCall
+unfolding code starts rows shown allAlike decode encodeRec encode recs recordsOf classOf argOfClass keyIn clausesOf clauseAt keyOf known risingBelow hasBody recordBad checkRecords checkClause checkClauses openSomewhere checkClausesOf checkCode checkBuild expandAt build stored indexOf buildCall walkOn argumentOk callOf resultOf walkCall
 worked = tt

@@ -67,8 +67,8 @@ module _ (cls : ℕ → ℕ) (code starts : List ℕ) (S : Settings) (c : ℕ) w
     -- no two tables looked at there are for one argument
     pub arguments : (m : ℕ) → Rises 1 (argsOf (walkFresh q m .found .path))
 
-  -- what holds of an accepted walk; before has the calls of the accepted walks before it
-  pub record Accepted (before : List (List ℕ)) (index : List ℕ) (count : ℕ) (q : Asked) (w : Walked) : Type 0 where
+  -- what holds of an accepted walk
+  pub record Accepted (index : List ℕ) (count : ℕ) (q : Asked) (w : Walked) : Type 0 where
     -- it selects every clause that agrees with its call, once, in source order
     pub all : keep (agree program (callOf (q .call))) (selected w) ≡ keep (agree program (callOf (q .call))) (offsetsOf starts)
     pub in-order : Sublistᴰ (selected w) (offsetsOf starts)
@@ -82,13 +82,6 @@ module _ (cls : ℕ → ℕ) (code starts : List ℕ) (S : Settings) (c : ℕ) w
     pub mark : w .mark ≡ cond (walkGot index count q .whole) 0 1
     pub records : w .records ≡ size (walkGot index count q .left)
     pub left : w .index ≡ stored (S .dynamic) (walkGot index count q .left) index
-    -- a call made again leaves the index unchanged
-    pub again : List·Memᴰ (q .call) before → (w .index ≡ index) × (w .records ≡ count)
-
-  -- what holds of each walk: never refused for its index, and the above if it is accepted
-  pub record Each (before : List (List ℕ)) (index : List ℕ) (count : ℕ) (q : Asked) : Type 0 where
-    pub not-12 : walked index count q .number ≡ 12 → ⊥
-    pub accepted : walked index count q .number ≡ 0 → Accepted before index count q (walked index count q)
 
   -- after a walk: the count handed on, and the calls accepted so far
   abbrev pub countAfter : Walked → ℕ → ℕ
@@ -96,6 +89,15 @@ module _ (cls : ℕ → ℕ) (code starts : List ℕ) (S : Settings) (c : ℕ) w
 
   abbrev pub callsAfter : Walked → Asked → List (List ℕ) → List (List ℕ)
   callsAfter w q before = cond (eqb (w .number) 0) (q .call ∷ before) before
+
+  -- what holds of each walk, accepted or refused; before has the calls of the accepted walks before it
+  pub record Each (before : List (List ℕ)) (index : List ℕ) (count : ℕ) (q : Asked) : Type 0 where
+    -- it is not refused for its index
+    pub not-12 : walked index count q .number ≡ 12 → ⊥
+    -- the above, if it is accepted
+    pub accepted : walked index count q .number ≡ 0 → Accepted index count q (walked index count q)
+    -- an accepted call made again, whether accepted again or refused, leaves the index and the count handed on unchanged
+    pub again : List·Memᴰ (q .call) before → (walked index count q .index ≡ index) × (countAfter (walked index count q) count ≡ count)
 
   -- each walk gets the index as the builder or the last walk left it, with the count that the builder or the last accepted walk gave
   abbrev pub Every : List (List ℕ) → List ℕ → ℕ → List Asked → Type 0

@@ -31,7 +31,8 @@ outcomes capacity qs = outcomesFrom (built capacity .index) (built capacity .cou
 abbrev pub asking : List Rec → Asked
 asking call = record { call = encode call; out = 0 ∷ 0 ∷ 0 ∷ [] }
 
--- (unbound, list); a call of one record; an out for two clauses; (7, 9); (unbound, list) again; both unbound; (7, 9) again; (structure, list)
+-- (unbound, list); a call of one record; (unbound, list) again, refused for an out for two clauses; (7, 9); (unbound, list) again; both unbound; (7, 9) again;
+-- (structure, list)
 unfoldable pub walks : List Asked
 walks =
     asking (unbound ∷ listKey ∷ [])

@@ -71,6 +71,14 @@ set-swap m n (suc i) t u (v ∷ ts) us r e =
     let l : Args m (suc (argOf v)) (t ∷ us) = rw e at (args-drop m (suc (argOf v)) i ts (r .2)) in
     rw (eqb-other {m = argOf v} {n = argOf t} (omega (arith, l .0))) (ap (λ (ws : List Table). v ∷ ws) (set-swap m (suc (argOf v)) i t u ts us (r .2) e))
 
+pub find-drop : (m n i : ℕ) (t : Table) (ts us : List Table) → Args m n ts → drop i ts ≡ t ∷ us → find (argOf t) ts ≡ some t
+find-drop m n zero t [] us r e = let z : _≡_ {A = ℕ} 0 1 = cc in absurd (omega arith)
+find-drop m n (suc i) t [] us r e = let z : _≡_ {A = ℕ} 0 1 = cc in absurd (omega arith)
+find-drop m n zero t (v ∷ ts) us r e = let z : v ≡ t = cc in rw (z, eqb-same (argOf t))
+find-drop m n (suc i) t (v ∷ ts) us r e =
+    let l : Args m (suc (argOf v)) (t ∷ us) = rw e at (args-drop m (suc (argOf v)) i ts (r .2)) in
+    rw (eqb-other {m = argOf v} {n = argOf t} (omega (arith, l .0))) (find-drop m (suc (argOf v)) i t ts us (r .2) e)
+
 drop-set : (i : ℕ) (t u : Table) (ts us : List Table) → drop i ts ≡ t ∷ us → drop i (set ts i u) ≡ u ∷ us
 drop-set zero t u [] us e = let z : _≡_ {A = ℕ} 0 1 = cc in absurd (omega arith)
 drop-set (suc i) t u [] us e = let z : _≡_ {A = ℕ} 0 1 = cc in absurd (omega arith)
