@@ -16,4 +16,5 @@ pub mod ChooseLaws
 pub mod ExpandedLaws
 pub mod PlaceLaws
 pub mod Walked
+pub mod Doubled
 pub mod Called

@@ -1,5 +1,5 @@
 -- Computed examples of the walk, after document 01's section 5; proofs/Called has those of the calls on bytes.
--- They pin the definitions: an edit of Walk that changes an answer, the index that is left or the tables looked at makes `walked` or `places` false.
+-- They pin the definitions: an edit of Walk that changes an answer or the index that is left makes `walked` false.
 -- Assumes nothing.
 use Prim.Native.Nat.{ℕ, _-_}
 use mathlib.Core.Bool.{Bool, cond, _&&_}
@@ -15,40 +15,40 @@ use Rattle.indexing.specs.Lines.{modeOf, records}
 use Rattle.indexing.specs.Reading.{parse}
 use Rattle.indexing.specs.Build.{Program}
 use Rattle.indexing.specs.Expand.{expandAt}
-use Rattle.indexing_scan.specs.Walk.{Step, Result, walkOn, walk}
+use Rattle.indexing_scan.specs.Walk.{Result, walkOn, walk}
 use Rattle.indexing_scan.specs.Calls.{caseNumber}
 
 -- ---- a walk: the index, its capacity, the call's keys; then case, line, tables, mark and the offsets selected, and the index left
 
-record Walk : Type 0 where
-  of : Program
-  index : List Rec
-  capacity : ℕ
-  call : List Key
-  answer : List ℕ
-  left : List Rec
+pub record Walk : Type 0 where
+  pub of : Program
+  pub index : List Rec
+  pub capacity : ℕ
+  pub call : List Key
+  pub answer : List ℕ
+  pub left : List Rec
 
 abbrev answers : Walk → Result → Bool
 answers w r =
     alike (caseNumber (r .found .kind) ∷ r .number ∷ length (r .found .path) ∷ cond (r .whole) 0 1 ∷ r .found .offsets) (w .answer)
     && alike (fields (records (modeOf (w .of .dynamic)) 0 (r .left))) (fields (w .left))
 
-abbrev ran : Walk → Result
+abbrev pub ran : Walk → Result
 ran w = walk (w .of) (w .capacity) (λ a. getD (w .call) (a - 1) None) (parse (w .index))
 
-abbrev gives : Walk → Bool
+abbrev pub gives : Walk → Bool
 gives w = answers w (ran w)
 
-abbrev asks : Program → List Rec → ℕ → Key → Key → List ℕ → List Rec → Walk
+abbrev pub asks : Program → List Rec → ℕ → Key → Key → List ℕ → List Rec → Walk
 asks P index capacity p q answer left =
     record { of = P; index = index; capacity = capacity; call = p ∷ q ∷ []; answer = answer; left = left }
 
 -- the worked show, by an index that is full and stays as it is
-abbrev sees : List Rec → Key → Key → List ℕ → Walk
+abbrev pub sees : List Rec → Key → Key → List ℕ → Walk
 sees index p q answer = asks (static 2 show) index (length index) p q answer index
 
 -- two clauses, at the offsets 1 and 2: no key at all; atom 5 at argument 2
-abbrev loose : Program
+abbrev pub loose : Program
 loose = static 2 (clause 1 (None ∷ None ∷ []) ∷ clause 2 (None ∷ atom 5 ∷ []) ∷ [])
 
 -- one literal, one structure
@@ -131,53 +131,3 @@ walks =
 pub walked : T (all gives walks)
 unfolding expandAt walkOn
 walked = tt
-
--- ---- a line with two tables for one argument: each is looked at, and expanded, at its own place. No such index is well formed
-
--- a walk, and at each table looked at what was done and its argument
-record Path : Type 0 where
-  of : Walk
-  path : List ℕ
-
-abbrev stepsOf : List Step → List ℕ
-stepsOf [] = []
-stepsOf (s ∷ ss) = s .did ∷ s .arg ∷ stepsOf ss
-
-abbrev goes : Path → Bool
-goes w = gives (w .of) && alike (stepsOf (ran (w .of) .found .path)) (w .path)
-
--- behind a dead table for argument 1, a table for it and the worked show's clauses
-abbrev behind : List Rec → List Rec
-behind rest = line 0 0 ∷ dead 1 ∷ deadClause 4 ∷ rest
-
-abbrev second : List Rec
-second =
-    behind (switch 1 ∷ entry 1 0 7 (inner 1) ∷ entry 1 0 8 4 ∷ demand 2 ∷ offset 1 1 ∷ offset 2 4 ∷ offset 4 7
-    ∷ line 0 1 ∷ demand 2 ∷ offset 1 1 ∷ offset 4 7 ∷ [])
-
-abbrev paths : List Path
-paths =
-    -- dead, then a switch, whose answer it is
-    record { of = sees second (atom 8) None (2 ∷ 0 ∷ 2 ∷ 0 ∷ 4 ∷ []); path = 2 ∷ 1 ∷ 5 ∷ 1 ∷ [] }
-    ∷ record { of = sees second (atom 9) None (1 ∷ 0 ∷ 2 ∷ 0 ∷ []); path = 2 ∷ 1 ∷ 3 ∷ 1 ∷ [] }
-    ∷ record { of = sees second None None (4 ∷ 0 ∷ 3 ∷ 0 ∷ 1 ∷ 4 ∷ 7 ∷ []); path = 1 ∷ 1 ∷ 1 ∷ 1 ∷ 1 ∷ 2 ∷ [] }
-    -- dead, then on demand: the second is expanded
-    ∷ record {
-      of = asks (static 2 show) (behind (demand 1 ∷ demand 2 ∷ offset 1 1 ∷ offset 2 4 ∷ offset 4 7 ∷ [])) 14 (atom 8) None (2 ∷ 0 ∷ 2 ∷ 0 ∷ 4 ∷ []) second;
-      path = 2 ∷ 1 ∷ 5 ∷ 1 ∷ [];
-    }
-    -- both on demand: both are expanded, if both fit
-    ∷ record {
-      of = asks loose (line 0 0 ∷ demand 1 ∷ demand 1 ∷ offset 1 1 ∷ offset 4 2 ∷ []) 9 (atom 7) None (4 ∷ 0 ∷ 2 ∷ 0 ∷ 1 ∷ 2 ∷ [])
-          (line 0 0 ∷ dead 1 ∷ deadClause 1 ∷ deadClause 2 ∷ dead 1 ∷ deadClause 1 ∷ deadClause 2 ∷ offset 1 1 ∷ offset 4 2 ∷ []);
-      path = 2 ∷ 1 ∷ 2 ∷ 1 ∷ [];
-    }
-    ∷ record {
-      of = asks loose (line 0 0 ∷ demand 1 ∷ demand 1 ∷ offset 1 1 ∷ offset 4 2 ∷ []) 8 (atom 7) None (4 ∷ 0 ∷ 2 ∷ 1 ∷ 1 ∷ 2 ∷ [])
-          (line 0 0 ∷ dead 1 ∷ deadClause 1 ∷ deadClause 2 ∷ demand 1 ∷ offset 1 1 ∷ offset 4 2 ∷ []);
-      path = 2 ∷ 1 ∷ 2 ∷ 1 ∷ [];
-    } ∷ []
-
-pub places : T (all goes paths)
-unfolding expandAt walkOn
-places = tt

@@ -52,7 +52,7 @@ pub data Place : Type 0 where
   unstored : List ℕ → Place
 
 -- section 5, what is done at a table: stop (Fail), pass (next table), out (External, its offset), goto (first table of that line); the first
--- number is what a step did. Where tables are looked for by argument there may be none for it: skip
+-- number is what a step did. (skip, no table there, is met by ByArgument.antt only.)
 pub data Move : Type 0 where
   skip stop : Move
   pass : ℕ → Move
@@ -132,13 +132,13 @@ module _ (P : Program) where
   demand a q os [] = followNew (choose P q (virtual P a os))
   demand a q os (o ∷ opens) = pass 2
 
-  -- section 5: a bound argument at a table
+  -- section 5: the bound argument a at a table for it
   abbrev pub moveAt : Index → Place → ℕ → Key → Table → Move
   moveAt idx p a q (switch b es) = follow p (choose P q es)
   moveAt idx p a q (onDemand b) = demand a q (clauses idx p) (openAt P a (clauses idx p))
   moveAt idx p a q (dead b os) = pass 2
 
-  -- section 5: an argument at a table, whether bound or not
+  -- section 5: the argument a at a table for it, whether bound or not
   abbrev pub meet : Index → Place → ℕ → Key → Table → Move
   meet idx p a q t = cond (isOpen q) (pass 1) (moveAt idx p a q t)
 
@@ -172,33 +172,33 @@ tablesIn [] = 0
 tablesIn (l ∷ ls) = length (l .tables) + tablesIn ls
 
 module _ (P : Program) (cap : ℕ) (Q : Call) where
-  -- section 5, table i of line l is the first of the tables left: on demand and bound, it is expanded at that place, while expansions are stored
+  -- section 5, table i of line l, the first of the tables left there: on demand and bound, it is expanded at that place, while expansions are stored
   abbrev pub expandFirst : State → ℕ → ℕ → List Table → State
   expandFirst s l i [] = s
   expandFirst s l i (switch a es ∷ ts) = s
   expandFirst s l i (onDemand a ∷ ts) = cond (s .storing && not (isOpen (Q a))) (attempt cap (s .index) (expandAt P (s .index) l i a)) s
   expandFirst s l i (dead a os ∷ ts) = s
 
-  -- section 5: the state in which table i of a place is looked at
+  -- section 5: the state in which table i of a place, counted from 0, is looked at; after an expansion that is the table at the same place
   abbrev pub ready : State → Place → ℕ → State
   ready s (line l) i = expandFirst s l i (drop i (lineAt (s .index) l .tables))
   ready s (unstored os) i = s
 
-  -- section 5, the first of the tables left is looked at; next goes on with the next table, first with the first table of a line
+  -- section 5, the first of the tables left is looked at, if one is left; next goes on with the next table, first with the first table of a line
   abbrev pub visit : State → Place → List Table → Result → (ℕ → Place → Result) → Result
   visit s p [] next first = finish s p
   visit s p (t ∷ ts) next first =
       let a = argOf t in
       make (result 0 s) lookAt a (meet P (s .index) p a (Q a) t) next (first a)
 
-  -- section 5, the walk at a place, where i tables were passed; a switch on a led there. n bounds the tables looked at
+  -- section 5, the walk at a place, i tables of which were passed, and to which a switch on a led; n bounds the tables looked at
   unfoldable pub walkOn : ℕ → State → Place → ℕ → ℕ → Result
   walkOn zero s p a i = finish s p
   walkOn (suc n) s p a i =
       let t = ready s p i in
       visit t p (drop i (tablesOf P (t .index) a p)) (walkOn n t p a (suc i)) (λ b q. walkOn n t q b 0)
 
-  -- section 5: the walk from line 0 on, first table. A walk that ends looks at each table of the index at most once, and in lines that it makes at one
-  -- for each argument, so the bound does not bind
+  -- section 5, the walk from line 0, first table. Its bound cuts no walk short: a walk that ends looks at each table of the index at most once, and in
+  -- lines made by its expansions at one for each argument at most. On a well-formed index every larger bound gives the same (claims/specs/General)
   abbrev pub walk : Index → Result
   walk idx = walkOn (suc (P .arity + tablesIn idx)) (record { storing = true; index = idx }) (line 0) 0 0
