@@ -75,8 +75,8 @@ module _ (cls : ℕ → ℕ) (code starts : List ℕ) (S : Settings) (c : ℕ) (
   room = built-room cls code starts S c buffer accepts
 
   -- on an index that comes of the built one document 01's walk is the walk by arguments
-  by-tables : (cap : ℕ) {idx : Index} → Grown P cap (build P c os) idx → (room : ℕ) (Q : Call) → walk P room Q idx ≡ walkBy P room Q idx
-  by-tables cap {idx} came room Q = walk-is P room Q idx (grown-orderly P cap came (built-orderly P c os (is-ready .low) (is-ready .high) (is-ready .keyed)))
+  walk-by : (cap : ℕ) {idx : Index} → Grown P cap (build P c os) idx → (room : ℕ) (Q : Call) → walk P room Q idx ≡ walkBy P room Q idx
+  walk-by cap {idx} came room Q = walk-is P room Q idx (grown-orderly P cap came (built-orderly P c os (is-ready .low) (is-ready .high) (is-ready .keyed)))
       (omega (arith, built-length P c os, grown-length P cap came))
 
   -- what a list of walks keeps: the index and count handed on, and the calls accepted before
@@ -112,7 +112,7 @@ module _ (cls : ℕ → ℕ) (code starts : List ℕ) (S : Settings) (c : ℕ) (
       -- the walk is that of the index which the buffer holds
       got-is : resultOf cls code starts S (q .call) index count ≡ walkBy P cap Q (h .idx)
       unfolding resultOf
-      got-is = rw (capacity-is, parse-is) (by-tables cap came cap Q)
+      got-is = rw (capacity-is, parse-is) (walk-by cap came cap Q)
 
       -- a walk is refused with 10 or 11, or accepted
       by-outcome : (X : Walked → Type 0)
@@ -149,7 +149,7 @@ module _ (cls : ℕ → ℕ) (code starts : List ℕ) (S : Settings) (c : ℕ) (
 
       fresh-by : (m : ℕ) → walkFresh cls code starts S c q m ≡ walkBy P m Q (build P c os)
       unfolding indexOf
-      fresh-by m = by-tables cap grown-same m Q
+      fresh-by m = walk-by cap grown-same m Q
 
       fresh-is : (m : ℕ) → got .found ≡ walkFresh cls code starts S c q m .found
       fresh-is m = found-is ∙ one .fresh m ∙ ap (λ (r : Result). r .found) (sym (fresh-by m))

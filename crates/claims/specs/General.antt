@@ -26,7 +26,7 @@ module _ (P : Program) (known : ℕ → Bool) (rs : List Rec) where
   abbrev pub Well : Type 0
   Well = wellFormed (P .arity) (P .dynamic) known rs ≡ true
 
-  -- the walk's bound does not bind: every larger one, down to one above the arity, gives the same result
+  -- the walk's bound does not bind: every bound above the arity gives the same result
   abbrev pub Bounded : Type 0
   Bounded =
       Well → (n cap : ℕ) (Q : Call) → P .arity < n → walkOn P cap Q n (record { storing = true; index = parse rs }) (line 0) 0 0 ≡ walk P cap Q (parse rs)
