@@ -82,14 +82,14 @@ fn expand_dead(index: &mut [u8], t: OnDemand, zeros: &[u32], opens: &[u8], offs:
     ensures { λ r. ⌜ Expansion r t (now (index .entry)) (now (index .exit)) (deadRecs (now (zeros .entry)) (now (opens .entry)) (now (offs .entry)) (t .arg)) [] 0 ⌝ }
 {
     let more = later_tables::dead_room(zeros, opens, t.arg) - 1;
-    let size = t.count + more;
-    if t.capacity < size {
+    let total = t.count + more;
+    if t.capacity < total {
         return Expanded::NoRoom;
     }
     records::open_gap(index, t.at, t.count, more);
     later_tables::put_dead(index, t.at, zeros, opens, offs, t.arg);
     Expanded::Stored {
-        count: size,
+        count: total,
         lines: t.lines,
     }
 }

@@ -33,8 +33,8 @@ dead-room-requires c κs = search needs
 sub-more : tie.Need-sub-more
 sub-more c = omega (arith, room c)
 
-add-size : tie.Need-add-size
-add-size c = search needs
+add-total : tie.Need-add-total
+add-total c = search needs
 
 returns : tie.Need-returns
 returns c = record { answer = answer-none (c .before .before .before .before .before .before .before .before .args .t .capacity) _ _ (omega (arith, room (c .before .before .before), c .if1)); leaves = refl }
@@ -71,7 +71,7 @@ expand-dead-spec =
     (tie.spec
     dead-room-requires
     sub-more
-    add-size
+    add-total
     returns
     open-gap-requires
     put-dead-requires
