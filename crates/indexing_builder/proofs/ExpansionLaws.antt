@@ -1,4 +1,4 @@
--- The expansion by the columns that the code fills: its answer, its block and its new lines.
+-- The expansion by the columns that the code fills: its answer, its block and its new lines; answer and buffer are those of section 4's expansion.
 -- Assumes nothing.
 use mathlib.Core.Path.{_≡_, refl, sym, ap, ap₂, _∙_, subst}
 use mathlib.Core.Bool.{Bool, true, false, cond}
