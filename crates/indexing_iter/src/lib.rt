@@ -165,10 +165,10 @@ fn wide(x: u16) -> u32
 pub fn same_bits(head: u32, bits: u64, head2: u32, bits2: u64) -> bool
     ensures { λ r. ⌜ r ≡ sameBits head bits head2 bits2 ⌝ }
 {
-    if head != head2 {
+    if bits != bits2 {
         return false;
     }
-    bits == bits2
+    head == head2
 }
 
 // Whether two keys are equal: sort, arity and bits are. The group tells a literal of any sort from the other keys.
