@@ -28,7 +28,7 @@ use Rattle.indexing_scan.specs.Agree.{Call}
 use Rattle.indexing_scan.specs.ByArgument.{answer, walkBy}
 use Rattle.indexing_scan.specs.Walk.{Answer, Result, line, walk}
 use Rattle.claims.specs.Demand3.{Rises, argsOf}
-use Rattle.claims.specs.General.{leftBy, Well, Bounded, T1, T2, T2Left, T4, T5, Checked, T7}
+use Rattle.claims.specs.General.{leftBy, Well, Bounded, AnyCapacity, ExpansionKeeps, LeftKeeps, OneTableEach, AgainUnchanged, Checked, LeftWell}
 use Rattle.claims.proofs.Demand3.{rises-args}
 
 -- a line that has a table is one of the index
@@ -81,11 +81,11 @@ module _ (P : Program) (known : ℕ → Bool) (rs : List Rec) where
   pub bounded : Bounded P known rs
   bounded well n cap Q k = bound-is-walk P cap Q n (parse rs) k (orderly well) (some-line well) ∙ sym (by-tables well cap Q)
 
-  pub t1 : T1 P known rs
-  t1 well cap cap′ Q = answers P (parse rs) (orderly well) (some-line well) cap Q ∙ sym (answers P (parse rs) (orderly well) (some-line well) cap′ Q)
+  pub any-capacity : AnyCapacity P known rs
+  any-capacity well cap cap′ Q = answers P (parse rs) (orderly well) (some-line well) cap Q ∙ sym (answers P (parse rs) (orderly well) (some-line well) cap′ Q)
 
-  pub t2 : T2 P known rs
-  t2 well l i a ts e cap Q =
+  pub expansion-keeps : ExpansionKeeps P known rs
+  expansion-keeps well l i a ts e cap Q =
       let idx : Index = parse rs in
       let o : Orderly P idx = orderly well in
       let h : 0 < length idx = some-line well in
@@ -96,8 +96,8 @@ module _ (P : Program) (known : ℕ → Bool) (rs : List Rec) where
       ∙ same-from P idx l a a k d (closed P idx o h) Q (P .arity) 1 (omega arith) (kept h)
       ∙ sym (answers P idx o h cap Q)
 
-  pub t2-left : T2Left P known rs
-  t2-left well cap room Qs R =
+  pub left-keeps : LeftKeeps P known rs
+  left-keeps well cap room Qs R =
       let o : Orderly P (parse rs) = orderly well in
       let h : 0 < length (parse rs) = some-line well in
       let g : Grown P cap (parse rs) (leftBy P cap Qs (parse rs)) = came-by P cap Qs (parse rs) o h in
@@ -105,12 +105,12 @@ module _ (P : Program) (known : ℕ → Bool) (rs : List Rec) where
       ∙ grown-answer P cap g (closed P (parse rs) o h) R (P .arity) 1 0 (omega arith) h
       ∙ sym (answers P (parse rs) o h room R)
 
-  pub t4 : T4 P known rs
-  t4 well cap Q = subst (λ (r : Answer). Rises 1 (argsOf (r .path))) (sym (answers P (parse rs) (orderly well) (some-line well) cap Q))
+  pub one-table-each : OneTableEach P known rs
+  one-table-each well cap Q = subst (λ (r : Answer). Rises 1 (argsOf (r .path))) (sym (answers P (parse rs) (orderly well) (some-line well) cap Q))
       (rises-args 1 (answer P Q (parse rs) .path) (path-rising P Q (P .arity) 1 (parse rs) (line 0)))
 
-  pub t5 : T5 P known rs
-  t5 well cap Q Qs =
+  pub again-unchanged : AgainUnchanged P known rs
+  again-unchanged well cap Q Qs =
       let idx : Index = parse rs in
       let o : Orderly P idx = orderly well in
       let h : 0 < length idx = some-line well in
@@ -123,8 +123,8 @@ module _ (P : Program) (known : ℕ → Bool) (rs : List Rec) where
       ap (λ (r : Result). r .left) (walk-is P cap Q last (grown-orderly P cap k one-o) (omega (arith, grown-length P cap k)))
       ∙ again P cap Q (P .arity) 1 idx last (closed P idx o h) (has-line h) (subst (λ (r : Result). Grown P cap (r .left) last) (by-tables well cap Q) k)
 
-  pub t7 : T7 P known rs
-  t7 well checked cap Qs =
+  pub left-well : LeftWell P known rs
+  left-well well checked cap Qs =
       let g : Grown P cap (parse rs) (leftBy P cap Qs (parse rs)) = came-by P cap Qs (parse rs) (orderly well) (some-line well) in
       let sound : indexOk (P .arity) (P .dynamic) known (leftBy P cap Qs (parse rs)) ≡ true =
           grown-ok P known (checked .keys) cap g (well-index P known rs well) in

@@ -31,28 +31,28 @@ module _ (P : Program) (known : ℕ → Bool) (rs : List Rec) where
   Bounded =
       Well → (n cap : ℕ) (Q : Call) → P .arity < n → walkOn P cap Q n (record { storing = true; index = parse rs }) (line 0) 0 0 ≡ walk P cap Q (parse rs)
 
-  -- T1: what is stored does not matter: the answer is the same at every capacity
-  abbrev pub T1 : Type 0
-  T1 = Well → (cap cap′ : ℕ) (Q : Call) → walk P cap Q (parse rs) .found ≡ walk P cap′ Q (parse rs) .found
+  -- what is stored does not matter: the answer is the same at every capacity
+  abbrev pub AnyCapacity : Type 0
+  AnyCapacity = Well → (cap cap′ : ℕ) (Q : Call) → walk P cap Q (parse rs) .found ≡ walk P cap′ Q (parse rs) .found
 
-  -- T2: the expansion of an on-demand table, at its place, changes no call's answer
-  abbrev pub T2 : Type 0
-  T2 =
+  -- the expansion of an on-demand table, at its place, changes no call's answer
+  abbrev pub ExpansionKeeps : Type 0
+  ExpansionKeeps =
       Well → (l i a : ℕ) (ts : List Table) → drop i (lineAt (parse rs) l .tables) ≡ onDemand a ∷ ts
       → (cap : ℕ) (Q : Call) → walk P cap Q (expandAt P (parse rs) l i a) .found ≡ walk P cap Q (parse rs) .found
 
   -- so the index that walks leave answers every call as the one that they got
-  abbrev pub T2Left : Type 0
-  T2Left =
+  abbrev pub LeftKeeps : Type 0
+  LeftKeeps =
       Well → (cap room : ℕ) (Qs : List Call) (R : Call) → walk P room R (leftBy P cap Qs (parse rs)) .found ≡ walk P room R (parse rs) .found
 
-  -- T4: no two tables looked at are for one argument
-  abbrev pub T4 : Type 0
-  T4 = Well → (cap : ℕ) (Q : Call) → Rises 1 (argsOf (walk P cap Q (parse rs) .found .path))
+  -- no two tables looked at are for one argument
+  abbrev pub OneTableEach : Type 0
+  OneTableEach = Well → (cap : ℕ) (Q : Call) → Rises 1 (argsOf (walk P cap Q (parse rs) .found .path))
 
-  -- T5: the same call made again, at once or after other walks, leaves the index
-  abbrev pub T5 : Type 0
-  T5 =
+  -- the same call made again, at once or after other walks, leaves the index
+  abbrev pub AgainUnchanged : Type 0
+  AgainUnchanged =
       Well → (cap : ℕ) (Q : Call) (Qs : List Call)
       → walk P cap Q (leftBy P cap (Q ∷ Qs) (parse rs)) .left ≡ leftBy P cap (Q ∷ Qs) (parse rs)
 
@@ -61,9 +61,9 @@ module _ (P : Program) (known : ℕ → Bool) (rs : List Rec) where
     pub small : (o : ℕ) → known o ≡ true → o < 0x8000_0000
     pub keys : (o a : ℕ) → isOpen (P .keyOf o a) ≡ false → keyOk (P .keyOf o a) ≡ true
 
-  -- T7: the index that walks leave is well formed, and its records stand for it
-  abbrev pub T7 : Type 0
-  T7 =
+  -- the index that walks leave is well formed, and its records stand for it
+  abbrev pub LeftWell : Type 0
+  LeftWell =
       Well → Checked → (cap : ℕ) (Qs : List Call)
       → (wellFormed (P .arity) (P .dynamic) known (records (modeOf (P .dynamic)) 0 (leftBy P cap Qs (parse rs))) ≡ true)
       × (parse (records (modeOf (P .dynamic)) 0 (leftBy P cap Qs (parse rs))) ≡ leftBy P cap Qs (parse rs))
