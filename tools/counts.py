@@ -6,7 +6,7 @@ LIBRARY = '''records/specs/Bytes records/specs/Records indexing_iter/specs/Class
 indexing_iter/specs/Clauses indexing_iter/specs/Checks indexing/specs/Lists indexing/specs/Lines indexing/specs/Reading
 indexing/specs/Build indexing/specs/Expand indexing/specs/Builder indexing_builder/specs/Answer well_formed/specs/WellFormed indexing_scan/specs/Agree
 indexing_scan/specs/Walk indexing_scan/specs/Calls indexing_scan/specs/Witness indexing_walk/specs/Answers podrulka/specs/Face
-claims/specs/Show claims/specs/Demand3'''.split()
+claims/specs/Show claims/specs/Demand3 claims/specs/General'''.split()
 PROGRAMS = 'inputs/specs/Input listing/specs/Text walk_inputs/specs/Plan walk_inputs/specs/Run walk_listing/specs/Text'.split()
 
 
