@@ -9,7 +9,7 @@ returns : tie.Need-returns
 returns c = simp (eq-eqb _ _ (c .if1 .taken))
 
 returns-2 : tie.Need-returns-2
-returns-2 c = simp (ne-eqb _ _ (c .before .if1 .left), lt-ltb _ _ (c .if2 .taken))
+returns-2 c = let a = c .before .before .args in simp (ne-eqb _ _ (c .before .if1 .left), lt-ltb (a .arity) (a .c) (c .if2 .taken))
 
 returns-3 : tie.Need-returns-3
 returns-3 c = simp (ne-eqb _ _ (c .before .if1 .left), le-ltb _ _ (c .if2 .left))
