@@ -5,7 +5,7 @@ use mathlib.Core.Bool.{not, _&&_}
 use lib.Seq.{slice}
 use borrow.Author.Needs.{needs}
 use Rattle.records.specs.Records.{recordsOf}
-use Rattle.well_formed.specs.Pass.{distinctKeys}
+use Rattle.well_formed.specs.Pass.{among, distinctKeys}
 use Rattle.well_formed.proofs.KeyParts.{distinct-step, distinct-none}
 use Rattle.well_formed.proofs.keys.distinct_pairs.Statement.{statement}
 use Rattle.well_formed.proofs.keys.distinct_pairs.Tie as tie
@@ -28,7 +28,8 @@ turn : (c : tie.After-key-among Inv-loop μ-loop)
 turn c =
     let a = c .before .before .before .before .before .args in
     let rs = recordsOf (a .index .now) in
-    rw (distinct-step _ rs _ _ (c .before .before .loop-test .taken) (search needs) (c .before .get .ensures), ← c .key-among .ensures)
+    let k : c .key-among .result ≡ among (c .before .get .result) (slice (c .before .before .before .loop .i + 1) (a .to) rs) = c .key-among .ensures in
+    rw (distinct-step _ rs _ _ (c .before .before .loop-test .taken) (search needs) (c .before .get .ensures), ← k)
     at (c .before .before .before .loop .inv)
 
 loop-holds : tie.Need-loop-holds Inv-loop μ-loop
