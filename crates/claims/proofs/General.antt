@@ -13,7 +13,7 @@ use Rattle.indexing.proofs.Grown.{Grown, grown-same, grown-trans, grown-length,
 use Rattle.indexing.proofs.Order.{Orderly, orderly-expand, orderly-closed, find-drop, expand-at}
 use Rattle.indexing.proofs.Pointers.{Closed}
 use Rattle.indexing.specs.Build.{Program}
-use Rattle.indexing.specs.Expand.{expand, expandAt}
+use Rattle.indexing.specs.Expand.{expand}
 use Rattle.indexing.specs.Lines.{Table, onDemand, Index, lineAt, find}
 use Rattle.indexing.specs.Reading.{parse}
 use Rattle.well_formed.proofs.Sound.{index-length, ok-parse, ok-well, grown-ok}
@@ -28,7 +28,7 @@ use Rattle.indexing_scan.specs.Agree.{Call}
 use Rattle.indexing_scan.specs.ByArgument.{answer, walkBy}
 use Rattle.indexing_scan.specs.Walk.{Answer, Result, line, walk}
 use Rattle.claims.specs.Demand3.{Rises, argsOf}
-use Rattle.claims.specs.General.{leftBy, Well, Bounded, AnyCapacity, ExpansionKeeps, LeftKeeps, OneTableEach, AgainUnchanged, Checked, LeftWell}
+use Rattle.claims.specs.General.{leftBy, Well, Bounded, AnyCapacity, ExpansionKeeps, LeftKeeps, OneTableEach, AgainUnchanged, LeftWell}
 use Rattle.claims.proofs.Demand3.{rises-args}
 
 -- a line that has a table is one of the index

@@ -57,13 +57,13 @@ module _ (P : Program) (known : ℕ → Bool) (rs : List Rec) where
       → walk P cap Q (leftBy P cap (Q ∷ Qs) (parse rs)) .left ≡ leftBy P cap (Q ∷ Qs) (parse rs)
 
   -- offsets are small, and bound keys in range, as in code that passed its checks
-  pub record Checked : Type 0 where
+  pub record CodeInRange : Type 0 where
     pub small : (o : ℕ) → known o ≡ true → o < 0x8000_0000
     pub keys : (o a : ℕ) → isOpen (P .keyOf o a) ≡ false → keyOk (P .keyOf o a) ≡ true
 
   -- the index that walks leave is well formed, and its records stand for it
   abbrev pub LeftWell : Type 0
   LeftWell =
-      Well → Checked → (cap : ℕ) (Qs : List Call)
+      Well → CodeInRange → (cap : ℕ) (Qs : List Call)
       → (wellFormed (P .arity) (P .dynamic) known (records (modeOf (P .dynamic)) 0 (leftBy P cap Qs (parse rs))) ≡ true)
       × (parse (records (modeOf (P .dynamic)) 0 (leftBy P cap Qs (parse rs))) ≡ leftBy P cap Qs (parse rs))

@@ -205,7 +205,7 @@ fn put_entry(
 }
 
 // Writes the entries of group g from place p on and returns the place after them; d is the group's first line, counted from 1 among the
-// new ones, and k its next.
+// new ones, and k its next; distances grow by what is given.
 fn put_entries(
     index: &mut [u8],
     p: usize,
@@ -228,20 +228,7 @@ fn put_entries(
     let mut k = d;
     let mut i = 0;
     while i < leaders.len() {
-        q = put_entry(
-            index,
-            q,
-            leaders,
-            heads,
-            sizes,
-            bits,
-            offs,
-            dynamic,
-            g,
-            k,
-            by,
-            i,
-        );
+        q = put_entry(index, q, leaders, heads, sizes, bits, offs, dynamic, g, k, by, i);
         k += line_step(leaders, heads, sizes, dynamic, g, i);
         i += 1;
     }

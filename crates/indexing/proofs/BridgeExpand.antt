@@ -248,12 +248,6 @@ module _ (S : Settings) (K : ℕ → ℕ → Key) (all : List ℕ) (c : ℕ) (sm
       ∙ ap (λ (n : ℕ). n + length (blockRecs S K its c (length line0 - 0)) + length (moreRecs S K its tags c (length line0)) - 1) seeds-count
       ∙ expand-size S K line0 0 c c (omega (arith, one-line)) (seed-demand (programBy S K) c all) small above below its-ranged tags its-own)
 
-  pub built-records : records (modeOf (S .dynamic)) 0 (build (programBy S K) c all) ≡ take 1 seeds ++ (switch0 ++ (slice 2 (length seeds) seeds ++ lines0))
-  built-records =
-      rw expands (
-      expand-records S K line0 0 c c (omega (arith, one-line)) (seed-demand (programBy S K) c all) small above below its-ranged tags its-own
-      ∙ rw (its-block, its-lines, seeds-place, ← seeds-count, ← seeds-are))
-
   -- the same in a list of records that begins with line 0 as it is before its switch is made
   pub built-spliced : (rs : List Rec) → take (length seeds) rs ≡ seeds
       → spliced rs 1 (length seeds) switch0 lines0

@@ -32,11 +32,6 @@ pub length-offs : (cs : List Choice) → length (offs cs) ≡ length cs
 length-offs [] = refl
 length-offs (c ∷ cs) = ap suc (length-offs cs)
 
-pub getD-offs : (cs : List Choice) (j : ℕ) (d : Choice) → j < length (offs cs) → getD cs j d .offset ≡ getD (offs cs) j 0
-getD-offs [] j d h = absurd (omega arith)
-getD-offs (c ∷ cs) zero d h = refl
-getD-offs (c ∷ cs) (suc j) d h = getD-offs cs j d (omega arith)
-
 -- ---- tests
 
 pub eqb-swap : (m n : ℕ) → eqb m n ≡ eqb n m
@@ -56,10 +51,6 @@ pub all-keyed : (P : Program) (a : ℕ) (os : List ℕ) → openAt P a os ≡ []
 all-keyed P a [] e i h = absurd (omega arith)
 all-keyed P a (o ∷ os) e zero h = add-empty (isOpen (P .keyOf o a)) o (openAt P a os) e .0
 all-keyed P a (o ∷ os) e (suc i) h = all-keyed P a os (add-empty (isOpen (P .keyOf o a)) o (openAt P a os) e .1) i (omega arith)
-
-pub keyed-open : (P : Program) (a : ℕ) (os : List ℕ) → ((i : ℕ) → i < length os → isOpen (keyAt (P .keyOf) os a i) ≡ false) → openAt P a os ≡ []
-keyed-open P a [] h = refl
-keyed-open P a (o ∷ os) h = rw (h 0 (omega arith)) (keyed-open P a os (λ i k. h (suc i) (omega arith)))
 
 -- ---- the list key
 

@@ -16,11 +16,6 @@ use Rattle.indexing.specs.Upto.{bit, countTo, anyTo, listTo}
 
 -- ---- numbers that pass a test
 
-pub count-cong : (t u : ℕ → Bool) (n : ℕ) → ((i : ℕ) → i < n → t i ≡ u i) → countTo t n ≡ countTo u n
-unfolding countTo
-count-cong t u zero h = refl
-count-cong t u (suc n) h = ap₂ (λ (x : ℕ) (y : Bool). x + bit y) (count-cong t u n (λ i k. h i (omega arith))) (h n (omega arith))
-
 pub any-cong : (t u : ℕ → Bool) (n : ℕ) → ((i : ℕ) → i < n → t i ≡ u i) → anyTo t n ≡ anyTo u n
 unfolding anyTo
 any-cong t u zero h = refl
@@ -43,15 +38,6 @@ pub any-clear : (t : ℕ → Bool) (n : ℕ) → ((i : ℕ) → i < n → t i �
 unfolding anyTo
 any-clear t zero h = refl
 any-clear t (suc n) h = rw (h n (omega arith)) (any-clear t n (λ i k. h i (omega arith)))
-
-pub any-count : (t : ℕ → Bool) (n : ℕ) → anyTo t n ≡ false → countTo t n ≡ 0
-unfolding anyTo countTo
-any-count t zero e = refl
-any-count t (suc n) e = go (t n) e (any-count t n)
-  where
-    go : (b : Bool) → cond b true (anyTo t n) ≡ false → (anyTo t n ≡ false → countTo t n ≡ 0) → countTo t n + bit b ≡ 0
-    go true e ih = bool-absurd refl e
-    go false e ih = omega (arith, ih e)
 
 pub count-any : (t : ℕ → Bool) (n : ℕ) → anyTo t n ≡ true → 1 ≤ countTo t n
 unfolding anyTo countTo

@@ -12,15 +12,6 @@ use Rattle.indexing.proofs.Tests.{eqb-same, eqb-true, eqb-other}
 use Rattle.indexing.specs.Expanding.{front}
 use Rattle.indexing.specs.Lines.{Table, argOf, find, swap}
 
--- the table found is for that argument
-pub find-arg : (a : ℕ) (t : Table) (ts : List Table) → find a ts ≡ some t → argOf t ≡ a
-find-arg a t [] e = let z : _≡_ {A = ℕ} 0 1 = cc in absurd (omega arith)
-find-arg a t (u ∷ ts) e = go (eqb (argOf u) a) refl e (find-arg a t ts)
-  where
-    go : (x : Bool) → eqb (argOf u) a ≡ x → cond x (some u) (find a ts) ≡ some t → (find a ts ≡ some t → argOf t ≡ a) → argOf t ≡ a
-    go true y f ih = let g : u ≡ t = cc in let e′ : argOf u ≡ a = eqb-true y in rw g at e′
-    go false y f ih = ih f
-
 pub find-swap-other : (a b : ℕ) (u : Table) (ts : List Table) → argOf u ≡ a → b ≢ a → find b (swap a u ts) ≡ find b ts
 find-swap-other a b u [] e h = refl
 find-swap-other a b u (t ∷ ts) e h = go (eqb (argOf t) a) refl (find-swap-other a b u ts e h)

@@ -1,8 +1,8 @@
--- The builder by the columns that the code fills gives the builder's call (specs/Builder), on every byte of the buffer.
+-- The builder by the columns that the code fills gives the builder's call (indexing/specs/Builder), on every byte of the buffer.
 -- Assumes nothing.
 use mathlib.Core.Path.{_≡_, refl, sym, ap, ap₂, _∙_, subst}
 use mathlib.Core.Bool.{Bool, true, false, cond}
-use mathlib.Core.List.{List, [], _∷_, _++_}
+use mathlib.Core.List.{List, [], _++_}
 use Prim.Native.Nat.{ℕ, suc, _+_, _-_, _≤_, _<_}
 use native.Mathlib.Omega.{arith}
 use borrow.Author.Tests.{lt-ltb, le-ltb, ltb-false}

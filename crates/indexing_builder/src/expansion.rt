@@ -8,7 +8,7 @@ use indexing_iter::Settings;
 
 ghost use mathlib.Core.Path.{_≡_};
 ghost use mathlib.Core.List.{[]};
-ghost use Prim.Native.Nat.{_+_, _-_, _*_, _≤_, _<_};
+ghost use Prim.Native.Nat.{_+_, _-_, _*_, _≤_};
 ghost use lib.ListN.{length};
 ghost use Rattle.records.specs.Records.{recordsOf, Wrote};
 ghost use Rattle.records.specs.Moves.{spliced};

@@ -7,7 +7,7 @@ pub mod clause_view;
 
 ghost use mathlib.Core.Path.{_≡_};
 ghost use mathlib.Core.Bool.{true};
-ghost use Prim.Native.Nat.{_+_, _-_, _*_, _≤_, _<_};
+ghost use Prim.Native.Nat.{_≤_, _<_};
 ghost use lib.ListN.{length, drop, getD, replicate};
 ghost use lib.Seq.{slice};
 ghost use mathlib.Core.List.{map, _++_};

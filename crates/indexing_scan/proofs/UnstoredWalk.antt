@@ -31,18 +31,6 @@ module _ (P : Program) where
   off-move idx idx′ b q os =
       moves-alike P Off (λ os. off) idx idx′ (unstored os) (unstored os) b q (laterTable P b os) refl (λ d es e. absurd (no-switch P b os d es e))
 
-  -- the answer is that of the clauses, whatever the index
-  pub fresh-any : (Q : Call) (n b : ℕ) (idx idx′ : Index) (os : List ℕ) → answerFrom P Q n b idx (unstored os) ≡ answerFrom P Q n b idx′ (unstored os)
-  unfolding answerFrom
-  fresh-any Q zero b idx idx′ os = refl
-  fresh-any Q (suc n) b idx idx′ os =
-      act-alike (λ x. x) look Off b (λ u. answerFrom P Q n (suc b) idx u) (λ u. answerFrom P Q n (suc b) idx′ u) (off-move idx idx′ b (Q b) os) off
-      (λ u v w. go w (fresh-any Q n (suc b) idx idx′))
-    where
-      go : {u v : Place} → Off u v → ((os : List ℕ) → answerFrom P Q n (suc b) idx (unstored os) ≡ answerFrom P Q n (suc b) idx′ (unstored os))
-          → answerFrom P Q n (suc b) idx u ≡ answerFrom P Q n (suc b) idx′ v
-      go (off {os = os}) f = f os
-
   -- the walk from there on is that answer, in the state as it is
   pub walk-new : (cap : ℕ) (Q : Call) (n a : ℕ) (s : State) (os : List ℕ)
       → walkFrom P cap Q n a s (unstored os) ≡ result 0 s (answerFrom P Q n a [] (unstored os))

@@ -2,7 +2,6 @@
 -- Inner: for proofs, and for contracts of inner functions. proofs/Steps shows that on an orderly index it is the walk of Walk.antt.
 -- Assumes nothing.
 use mathlib.Core.Bool.{Bool, true, false, not, cond, _&&_}
-use mathlib.Core.List.{List}
 use mathlib.Core.Option.{Option, none, some}
 use Prim.Native.Nat.{ℕ, zero, suc}
 use Rattle.indexing_iter.specs.declared.OptArgIndexKey.{OptArgIndexKey as Key}

@@ -52,7 +52,7 @@ pub data Place : Type 0 where
   unstored : List ℕ → Place
 
 -- section 5, what is done at a table: stop (Fail), pass (next table), out (External, its offset), goto (first table of that line); the first
--- number is what a step did. (skip, no table there, is met by ByArgument.antt only.)
+-- number is what a step did. (skip, no table there, is met by the inner definitions of ByArgument and Unstored only.)
 pub data Move : Type 0 where
   skip stop : Move
   pass : ℕ → Move
@@ -199,6 +199,6 @@ module _ (P : Program) (cap : ℕ) (Q : Call) where
       visit t p (drop i (tablesOf P (t .index) a p)) (walkOn n t p a (suc i)) (λ b q. walkOn n t q b 0)
 
   -- section 5, the walk from line 0, first table. Its bound cuts no walk short: a walk that ends looks at each table of the index at most once, and in
-  -- lines made by its expansions at one for each argument at most. On a well-formed index every larger bound gives the same (claims/specs/General)
+  -- new lines, stored or not, at one for each argument at most. On a well-formed index every bound above the arity gives the same (`Bounded`, claims/specs/General)
   abbrev pub walk : Index → Result
   walk idx = walkOn (suc (P .arity + tablesIn idx)) (record { storing = true; index = idx }) (line 0) 0 0

@@ -49,9 +49,6 @@ ending-none R to = slice-done R (to - 0) to (omega arith)
 ending-more : (R : List Rec) (to m : ℕ) → to ≤ length R → m < to → ending R to (suc m) ≡ getD R (to - suc m) zeroRec ∷ ending R to m
 ending-more R to m high h = slice-back R (to - m) (to - suc m) to (omega arith) (omega arith) high
 
-length-ending : (R : List Rec) (to m : ℕ) → to ≤ length R → m ≤ to → length (ending R to m) ≡ m
-length-ending R to m high h = omega (arith, length-slice (to - m) to R high)
-
 -- the entries behind a place
 behind : (R : List Rec) (to at : ℕ) → at < to → ending R to (to - (at + 1)) ≡ slice (at + 1) to R
 behind R to at h =

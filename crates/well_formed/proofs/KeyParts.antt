@@ -1,4 +1,4 @@
--- The keys of a switch as the code compares them: field by field, over a run of records.
+-- The keys of a switch as the code compares them: by sort, arity and bits, over a run of records.
 -- Assumes nothing.
 use mathlib.Core.Path.{_≡_, refl, _∙_, ap, ap₂}
 use mathlib.Core.Bool.{Bool, true, false, not, _&&_, _||_}
