@@ -3,3 +3,4 @@ pub mod Keys
 pub mod Clauses
 pub mod Rows
 pub mod Checks
+pub mod Faults

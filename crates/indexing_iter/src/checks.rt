@@ -130,7 +130,7 @@ fn key_fields_ok(class: u8, r: Rec) -> bool
 }
 
 // 6 of one record.
-fn record_bad(class: u8, r: Rec) -> bool
+pub fn record_bad(class: u8, r: Rec) -> bool
     ensures { λ b. ⌜ b ≡ recordBad class r ⌝ }
 {
     if class < 3 {
@@ -150,7 +150,7 @@ fn record_bad(class: u8, r: Rec) -> bool
 }
 
 // 7 of one register, last the register of the clause's key before it.
-fn register_bad(arity: u32, last: u32, reg: u32) -> bool
+pub fn register_bad(arity: u32, last: u32, reg: u32) -> bool
     ensures { λ b. ⌜ b ≡ registerBad arity last reg ⌝ }
 {
     if reg == 0 {
@@ -174,7 +174,7 @@ fn refused_from(table: &[u8], code: &[u8], i: usize, end: usize, n: u32) -> Chec
 }
 
 // 5 to 7 of the clause from start up to end, its 5 first, by a table of classes: one pass through the first body record.
-fn check_clause(table: &[u8], code: &[u8], start: usize, end: usize, arity: u32) -> Checked
+pub fn check_clause(table: &[u8], code: &[u8], start: usize, end: usize, arity: u32) -> Checked
     requires { ⌜ (length (now table) ≡ 256) × (end ≤ length (recordsOf (now code))) ⌝ }
     ensures { λ r. ⌜ r ≡ checkClause (λ op. getD (now (table .entry)) op 0) arity (slice start end (recordsOf (now (code .entry)))) ⌝ }
 {
@@ -202,7 +202,7 @@ fn check_clause(table: &[u8], code: &[u8], start: usize, end: usize, arity: u32)
 }
 
 // Where clause i ends: at the next start, or at n.
-fn clause_end(starts: &[u32], i: usize, n: usize) -> usize
+pub fn clause_end(starts: &[u32], i: usize, n: usize) -> usize
     requires { ⌜ i < length (now starts) ⌝ }
     ensures { λ r. ⌜ r ≡ endOf n (drop (i + 1) (now (starts .entry))) ⌝ }
 {

@@ -40,6 +40,14 @@ pub enum Checked {
     Refused(u32),
 }
 
+// What refuses code, and where: the checks' number, 0 where nothing does; the clause and the record of the code first at fault, both
+// counted from 0, and 0 where no record is at fault.
+pub struct Fault {
+    pub number: u32,
+    pub clause: usize,
+    pub at: usize,
+}
+
 // The settings of a predicate, passed by value on each call.
 pub struct Settings {
     pub arity: u32,
@@ -71,14 +79,14 @@ const CLASS: [u8; 256] = [
 ];
 
 // The table, for a caller that looks up many opcodes: the constant is then written out once.
-fn classes() -> [u8; 256]
+pub fn classes() -> [u8; 256]
     ensures { λ t. ⌜ classOf ≡ (λ op. getD t op 0) ⌝ }
 {
     CLASS
 }
 
 // The class of an opcode by a table of classes.
-fn class_in(table: &[u8], op: u8) -> u8
+pub fn class_in(table: &[u8], op: u8) -> u8
     requires { ⌜ length (now table) ≡ 256 ⌝ }
     ensures { λ r. ⌜ r ≡ getD (now (table .entry)) op 0 ⌝ }
 {
@@ -195,7 +203,7 @@ fn key_of_class(class: u8, r: Rec) -> OptArgIndexKey
 }
 
 // What a record of a class says of an argument.
-fn arg_of_class(class: u8, r: Rec) -> InstructionArg
+pub fn arg_of_class(class: u8, r: Rec) -> InstructionArg
     ensures { λ a. ⌜ a ≡ argOfClass class r ⌝ }
 {
     if class == 1 {
@@ -227,7 +235,7 @@ pub fn extract_index_arg(table: &[u8], code: &[u8], i: usize) -> InstructionArg
 }
 
 // The key at argument j that the records from start up to end give, by a table of classes. A body record ends the reading.
-fn key_by(table: &[u8], code: &[u8], start: usize, end: usize, j: u32) -> OptArgIndexKey
+pub fn key_by(table: &[u8], code: &[u8], start: usize, end: usize, j: u32) -> OptArgIndexKey
     requires { ⌜ (length (now table) ≡ 256) × (end ≤ length (recordsOf (now code))) ⌝ }
     ensures { λ k. ⌜ k ≡ keyIn (λ op. getD (now (table .entry)) op 0) (slice start end (recordsOf (now (code .entry)))) j ⌝ }
 {
