@@ -1,1 +1,2 @@
 pub mod LocateLaws
+pub mod First

@@ -81,7 +81,7 @@ bad-cases false Prologue arity last g fs e = rw (e last) refl
 bad-cases false ArglessHead arity last g fs e = rw (e last) refl
 bad-cases false (ArgedHead reg key) arity last g fs e = seven (registerBad arity last reg) (g [] reg) (λ f. g f reg) fs (e reg)
 
-bad-cons : (cls : ℕ → ℕ) (arity : ℕ) (r : Rec) (rs : List Rec) (last : ℕ)
+pub bad-cons : (cls : ℕ → ℕ) (arity : ℕ) (r : Rec) (rs : List Rec) (last : ℕ)
     → badFrom cls arity (r ∷ rs) last ≡ badStep (recordBad (cls (r .kind)) r) (instructionArg cls r) arity last (length rs) (badFrom cls arity rs)
 unfolding badFrom fronts firstAt checkRecords
 bad-cons cls arity r rs last =
@@ -110,7 +110,7 @@ unfolding clausesOf
 length-clauses rs [] = refl
 length-clauses rs (x ∷ s) = ap suc (length-clauses rs s)
 
-nth-clause : (rs : List Rec) (s : List ℕ) (k : ℕ) → k < length s → getD (clausesOf rs s) k [] ≡ slice (getD s k 0) (endOf (length rs) (drop (suc k) s)) rs
+pub nth-clause : (rs : List Rec) (s : List ℕ) (k : ℕ) → k < length s → getD (clausesOf rs s) k [] ≡ slice (getD s k 0) (endOf (length rs) (drop (suc k) s)) rs
 unfolding clausesOf
 nth-clause rs [] k h = absurd (not-suc-le-zero h)
 nth-clause rs (x ∷ s) zero h = refl
@@ -221,7 +221,7 @@ clause-number cls arity rs =
 within-refuse : (met : Bool) (n : ℕ) → (1 ≤ n) × (n ≤ 4) → Within 1 4 (refuse met n)
 within-refuse met n p = within-cond 1 4 met (Refused n) Passed p tt
 
-front-number : (arity c : ℕ) (code starts : List ℕ) → Within 1 4 (checkFront arity c code starts)
+pub front-number : (arity c : ℕ) (code starts : List ℕ) → Within 1 4 (checkFront arity c code starts)
 front-number arity c code starts =
     within-otherwise 1 4 (checkChosenWith arity c) (otherwise (checkSize code) (checkStarts (length code / 16) starts))
     (within-otherwise 1 4 (checkArity arity) (cond (eqb c 0) Passed (checkChosen arity c)) (within-refuse (not (leb 1 arity && leb arity 32)) 1 (omega arith, omega arith))
@@ -258,7 +258,7 @@ build-order Passed Passed Passed (Refused n) k e = refl
 build-order Passed Passed Passed Passed (Refused n) e = refl
 build-order Passed Passed Passed Passed Passed e = refl
 
-in-order : (cls : ℕ → ℕ) (arity c : ℕ) (code starts : List ℕ)
+pub in-order : (cls : ℕ → ℕ) (arity c : ℕ) (code starts : List ℕ)
     → checkWith cls arity c code starts ≡ otherwise (checkFront arity c code starts) (checkBack cls arity c (clausesOf (recordsOf code) starts))
 unfolding checkCode checkBuild checkClausesOf
 in-order cls arity c code starts = go (eqb c 0)
