@@ -299,17 +299,31 @@ pub fn read_choices(index: &[u8], q: usize, m: usize, offs: &mut [u32], tags: &m
     }
 }
 
-// The offsets and tags of a new index's first line: the clauses' own, each with tag Z.
+// The offsets of a new index's first line: the clauses' own.
+pub fn start_offsets(starts: &[u32], offs: &mut [u32])
+    requires { ⌜ length (now offs) ≡ length (now starts) ⌝ }
+    requires { ⌜ NumbersBelow 32768 (now starts) ⌝ }
+    ensures { λ _. ⌜ now (offs .exit) ≡ offsetsOf (now (starts .entry)) ⌝ }
+{
+    let n = starts.len();
+    let mut i = 0;
+    while i < n {
+        offs[i] = starts[i] + 1;
+        i += 1;
+    }
+}
+
+// The offsets and tags of a new index's first line: each clause has tag Z.
 pub fn start_choices(starts: &[u32], offs: &mut [u32], tags: &mut [u8])
     requires { ⌜ (length (now offs) ≡ length (now starts)) × (length (now tags) ≡ length (now starts)) ⌝ }
     requires { ⌜ NumbersBelow 32768 (now starts) ⌝ }
     ensures { λ _. ⌜ now (offs .exit) ≡ offsetsOf (now (starts .entry)) ⌝ }
     ensures { λ _. ⌜ now (tags .exit) ≡ replicate (length (now (starts .entry))) 7 ⌝ }
 {
+    start_offsets(starts, offs);
     let n = starts.len();
     let mut i = 0;
     while i < n {
-        offs[i] = starts[i] + 1;
         tags[i] = 7;
         i += 1;
     }

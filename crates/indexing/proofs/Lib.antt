@@ -12,6 +12,7 @@ pub mod Built
 pub mod Order
 pub mod Grown
 pub mod Stored
+pub mod Sized
 pub mod BridgeLists
 pub mod BridgeColumns
 pub mod BridgeGroups

@@ -1,4 +1,5 @@
 -- The builder's call: result and every byte of the index buffer, for every input (document 01, sections 3 and "What each call gives back").
+-- And the size call: the record count that the builder would need, with no buffer.
 -- Assumes nothing.
 use Prim.Native.Nat.{ℕ, _+_, _*_, _/_, min}
 use mathlib.Core.Bool.{Bool, cond}
@@ -46,3 +47,17 @@ unfoldable pub buildCall : (ℕ → ℕ) → List ℕ → List ℕ → Settings 
 buildCall cls code starts S c buffer =
     let idx = indexOf cls code starts S c in
     builtBy (otherwise (checkBuild cls (S .arity) c code starts) (checkRoom buffer idx)) S idx buffer
+
+-- what a call of the size function gives back: the refusal's number (0: accepted), and the record count of the index, whatever the room
+pub record Sized : Type 0 where
+  pub number : ℕ
+  pub count : ℕ
+
+-- a refusal gives its number and no count
+abbrev pub sizedBy : Checked → Index → Sized
+sizedBy (Refused n) idx = record { number = n; count = 0 }
+sizedBy Passed idx = record { number = 0; count = size idx }
+
+-- the builder's checks, and the size of the index that it would write
+unfoldable pub sizeCall : (ℕ → ℕ) → List ℕ → List ℕ → Settings → ℕ → Sized
+sizeCall cls code starts S c = sizedBy (checkBuild cls (S .arity) c code starts) (indexOf cls code starts S c)

@@ -4,6 +4,7 @@ pub mod Reading
 pub mod Build
 pub mod Expand
 pub mod Builder
+pub mod Sized
 pub mod Seed
 pub mod Upto
 pub mod Columns

@@ -2,12 +2,12 @@
 -- Assumes nothing.
 use mathlib.Core.Path.{_≡_, refl, sym, ap, ap₂, _∙_, subst}
 use mathlib.Core.Bool.{Bool, true, false, cond}
-use mathlib.Core.List.{List, [], _++_}
-use Prim.Native.Nat.{ℕ, suc, _+_, _-_, _≤_, _<_}
+use mathlib.Core.List.{List, _++_}
+use Prim.Native.Nat.{ℕ, _+_, _-_, _≤_, _<_}
 use native.Mathlib.Omega.{arith}
 use borrow.Author.Tests.{lt-ltb, le-ltb, ltb-false}
 use lib.Dec.{ltb}
-use lib.ListN.{length, getD, take, drop, replicate, length-map, getD-replicate}
+use lib.ListN.{length, take, drop, replicate}
 use lib.Seq.{take-at, drop-append-add, drop-drop}
 use Rattle.records.specs.declared.Rec.{Rec}
 use Rattle.records.specs.Records.{recordsOf, Wrote}
@@ -21,25 +21,18 @@ use Rattle.indexing_iter.specs.declared.Checked.{Checked}
 use Rattle.indexing_iter.specs.declared.Checked.the-variants.{Passed, Refused}
 use Rattle.indexing_iter.specs.Classes.{classOf}
 use Rattle.indexing_iter.specs.Clauses.{keyOf, offsetsOf}
-use Rattle.indexing_iter.specs.Checks.{numberOf, checkCode, checkBuild}
-use Rattle.indexing_iter.proofs.KeyLaws.{code-ok}
-use Rattle.indexing_iter.proofs.CheckLaws.{build-code, build-chosen}
+use Rattle.indexing_iter.specs.Checks.{numberOf, checkBuild}
 use Rattle.indexing_builder.specs.declared.BuildAnswer.{BuildAnswer}
 use Rattle.indexing_builder.specs.declared.BuildAnswer.the-variants.{Done, Refused as Turned}
 use Rattle.indexing.specs.Lines.{Index, records, modeOf, size}
-use Rattle.indexing.specs.Build.{openAt, programBy, initial, build}
+use Rattle.indexing.specs.Build.{programBy, build}
 use Rattle.indexing.specs.Columns.{switchRecs, newLinesRecs, seedRecs}
-use Rattle.indexing.specs.Expanding.{headsAt, bitsAt, leadersAt, opensOf, zerosOf, ColumnsOf}
+use Rattle.indexing.specs.Expanding.{headsAt, bitsAt, leadersAt, ColumnsOf}
 use Rattle.indexing.specs.Builder.{capacityOf, stored, builtBy, indexOf, buildCall}
 use Rattle.indexing_builder.specs.Answer.{builtOf}
 use Rattle.indexing_builder.specs.Building.{answerBy, Builds, Building}
-use Rattle.indexing.proofs.Built.{keyed-by-checks}
 use Rattle.indexing.proofs.Stored.{capacity-within, stored-wrote}
-use Rattle.index_writer.proofs.ColumnLaws.{offsets-known}
-use Rattle.indexing.proofs.BridgeColumns.{InRange}
-use Rattle.indexing.proofs.BridgeLines.{Tagged, tagged-initial}
-use Rattle.indexing.proofs.BridgeExpand.{built-size, built-spliced}
-use Rattle.indexing_builder.proofs.ExpansionLaws.{switch-some, known-ranged}
+use Rattle.index_writer.proofs.IndexLaws.{switch-some, seedsOf, switchOf, linesOf, seeds-are, switch-is, lines-are, size-is, splice-is}
 
 -- ---- answers
 
@@ -89,50 +82,20 @@ module _ (code starts : List ℕ) (S : Settings) (c : ℕ) (passed : checkBuild 
   abbrev all : List ℕ
   all = offsetsOf starts
 
-  abbrev zs : List ℕ
-  zs = replicate (length starts) 7
-
   abbrev idx : Index
   idx = build (programBy S K) c all
 
   abbrev mode : ℕ
   mode = modeOf (S .dynamic)
 
-  pub checked : checkCode classOf (S .arity) code starts ≡ Passed
-  checked = build-code classOf (S .arity) code starts c passed
-
-  pub above : 1 ≤ c
-  above = build-chosen classOf (S .arity) code starts c passed .0
-
-  pub below : c ≤ S .arity
-  below = build-chosen classOf (S .arity) code starts c passed .1
-
-  pub small : S .arity ≤ 32
-  small = code-ok classOf (S .arity) code starts checked .arity-to
-
-  pub few : length starts ≤ 1024
-  few = code-ok classOf (S .arity) code starts checked .few
-
-  ranged : (i : ℕ) → i < length all → InRange (K (getD all i 0) c)
-  ranged = known-ranged code starts (S .arity) checked all (offsets-known starts) c
-
-  keyed : openAt (programBy S K) c all ≡ []
-  keyed = keyed-by-checks classOf code starts S c passed
-
-  own : Tagged S (initial 7 all) zs
-  own = tagged-initial S 7 all zs (λ e j h. getD-replicate (length starts) j 7 0 (omega (arith, length-map starts suc)))
-
   abbrev seeds : List Rec
-  seeds = seedRecs (zerosOf all) (opensOf S K all) all zs S c
+  seeds = seedsOf code starts S c
 
   abbrev switch : List Rec
-  switch = switchRecs (leadersAt K all c) (headsAt K all c) (bitsAt K all c) all (S .dynamic) c 1
+  switch = switchOf code starts S c
 
   abbrev lines : List Rec
-  lines = newLinesRecs (leadersAt K all c) (headsAt K all c) (opensOf S K all) all zs S c 1
-
-  size-is : length seeds + length switch + length lines - 1 ≡ size idx
-  size-is = built-size S K all c small above below ranged keyed zs own
+  lines = linesOf code starts S c
 
   -- what the builder leaves of the buffer
   left : (b b′ : List ℕ) → size idx ≤ length (recordsOf b) → Bytes b → Bytes b′
@@ -145,16 +108,16 @@ module _ (code starts : List ℕ) (S : Settings) (c : ℕ) (passed : checkBuild 
       let taken : take (length seeds) (written R 0 seeds) ≡ seeds =
           ap (take (length seeds)) front ∙ take-at seeds (drop (length seeds) R) (length seeds) refl in
       let rest : drop (size idx) (written R 0 seeds) ≡ drop (size idx) R =
-          ap (drop (size idx)) front ∙ drop-over seeds R (size idx) (omega (arith, size-is)) in
+          ap (drop (size idx)) front ∙ drop-over seeds R (size idx) (omega (arith, size-is code starts S c passed)) in
       let e : spliced (written R 0 seeds) 1 (length seeds) switch lines ≡ rs ++ drop (size idx) R =
-          built-spliced S K all c small above below ranged keyed zs own (written R 0 seeds) taken ∙ ap (λ (x : List Rec). rs ++ x) rest in
+          splice-is code starts S c passed (written R 0 seeds) taken ∙ ap (λ (x : List Rec). rs ++ x) rest in
       stored-wrote (S .dynamic) idx b b′ h h′ room (wrote-is e w)
 
   built : (b b′ : List ℕ) (r : BuildAnswer) → Bytes b → Bytes b′ → Building r (S .skip) b b′ seeds switch lines
       → builtOf r b′ ≡ buildCall classOf code starts S c b
   unfolding buildCall indexOf
   built b b′ r h h′ w =
-      rw passed (go (ltb (capacityOf b) (size idx)) refl (w .answer ∙ ap (λ (n : ℕ). answerBy (capacityOf b) n (S .skip)) size-is))
+      rw passed (go (ltb (capacityOf b) (size idx)) refl (w .answer ∙ ap (λ (n : ℕ). answerBy (capacityOf b) n (S .skip)) (size-is code starts S c passed)))
     where
       go : (t : Bool) → ltb (capacityOf b) (size idx) ≡ t → r ≡ cond t (Turned 9) (Done (size idx) (cond (S .skip) 2 1))
           → builtOf r b′ ≡ builtBy (cond t (Refused 9) Passed) S idx b
@@ -170,16 +133,7 @@ module _ (code starts : List ℕ) (S : Settings) (c : ℕ) (passed : checkBuild 
   -- the same by the columns
   module _ {os tags leaders heads sizes zeros bits opens : List ℕ} (o : os ≡ offsetsOf starts) (t : tags ≡ replicate (length starts) 7)
       (C : ColumnsOf K (S .arity) os c leaders heads sizes zeros bits opens) where
-    seeds-are : seedRecs zeros opens os tags S c ≡ seeds
-    seeds-are = rw (C .zeros-are, C .opens-are, o, t)
-
-    switch-is : switchRecs leaders heads bits os (S .dynamic) c 1 ≡ switch
-    switch-is = rw (C .leaders-are, C .heads-are, C .bits-are, o)
-
-    lines-are : newLinesRecs leaders heads opens os tags S c 1 ≡ lines
-    lines-are = rw (C .leaders-are, C .heads-are, C .opens-are, o, t)
-
     pub built-by : (b b′ : List ℕ) (r : BuildAnswer) → Bytes b → Bytes b′
         → Building r (S .skip) b b′ (seedRecs zeros opens os tags S c) (switchRecs leaders heads bits os (S .dynamic) c 1) (newLinesRecs leaders heads opens os tags S c 1)
         → builtOf r b′ ≡ buildCall classOf code starts S c b
-    built-by b b′ r h h′ w = built b b′ r h h′ (rw (seeds-are, switch-is, lines-are) at w)
+    built-by b b′ r h h′ w = built b b′ r h h′ (rw (seeds-are code starts S c o t C, switch-is code starts S c o t C, lines-are code starts S c o t C) at w)

@@ -15,14 +15,10 @@ use Rattle.records.specs.Moves.{spliced}
 use Rattle.records.proofs.Laws.{wrote-is}
 use Rattle.records.proofs.Whole.{Bytes}
 use Rattle.indexing_iter.specs.declared.OptArgIndexKey.{OptArgIndexKey as Key}
-use Rattle.indexing_iter.specs.declared.OptArgIndexKey.the-variants.{None, Literal, Structure, List as ListKey}
 use Rattle.indexing_iter.specs.declared.Settings.{Settings}
-use Rattle.indexing_iter.specs.declared.Checked.the-variants.{Passed}
-use Rattle.indexing_iter.specs.Checks.{checkCode}
 use Rattle.indexing_iter.specs.Classes.{classOf}
 use Rattle.indexing_iter.specs.Clauses.{keyOf}
-use Rattle.indexing_iter.proofs.SameKeys.{KeyInRange}
-use Rattle.indexing_iter.proofs.KeyLaws.{key-of-range, code-ok}
+use Rattle.indexing_iter.proofs.KeyLaws.{code-ok}
 use Rattle.indexing.specs.Lines.{onDemand, Choice, Index, lineAt, offs, tableRecs, records, modeOf, size}
 use Rattle.indexing.specs.Build.{Program, programOf}
 use Rattle.indexing.specs.Builder.{capacityOf}
@@ -41,6 +37,7 @@ use Rattle.indexing.proofs.Stored.{capacity-within, capacity-small, stored-wrot
 use Rattle.indexing.proofs.BridgeLines.{Tagged, tagged-own}
 use Rattle.indexing.proofs.BridgeExpand.{expand-size, expand-lines, expand-spliced}
 use Rattle.indexing.proofs.BridgeColumns.{InRange}
+use Rattle.index_writer.proofs.IndexLaws.{known-ranged}
 
 -- ---- answers
 
@@ -55,14 +52,10 @@ pub expansion-as : (t : OnDemand) (b b′ : List ℕ) (r : Expanded) {block bloc
     → Expansion r t b b′ block more new → Expansion r t b b′ block′ more′ new′
 expansion-as t b b′ r e f g x = rw (← e, ← f, ← g) x
 
--- a dead table and a switch have their own record
+-- a dead table has its own record
 pub dead-some : (zeros opens offs : List ℕ) (a : ℕ) → 1 ≤ length (deadRecs zeros opens offs a)
 unfolding deadRecs
 dead-some zeros opens offs a = omega arith
-
-pub switch-some : (leaders heads bits offs : List ℕ) (dynamic : Bool) (a d : ℕ) → 1 ≤ length (switchRecs leaders heads bits offs dynamic a d)
-unfolding switchRecs
-switch-some leaders heads bits offs dynamic a d = omega arith
 
 -- ---- the columns
 
@@ -116,18 +109,6 @@ module _ (S : Settings) {K : ℕ → ℕ → Key} {os : List ℕ} {a : ℕ} {lea
     dead-expanded opened = expansion-as t b b′ r (dead-block opened (t .lines - t .line)) (dead-more opened tags (t .lines)) (dead-lines opened)
 
 -- ---- what the expansion on the buffer is: section 4's
-
--- a key of checked code is in the columns' range
-key-ranged : (k : Key) → KeyInRange k → InRange k
-key-ranged None h = tt
-key-ranged (Literal s b) h = h
-key-ranged (Structure n f) h = omega (arith, h .1)
-key-ranged ListKey h = tt
-
-pub known-ranged : (code starts : List ℕ) (arity : ℕ) → checkCode classOf arity code starts ≡ Passed → (os : List ℕ) → AllKnown starts os → (a i : ℕ)
-    → i < length os → InRange (keyOf classOf (recordsOf code) starts (getD os i 0) a)
-known-ranged code starts arity e os k a i h =
-    key-ranged (keyOf classOf (recordsOf code) starts (getD os i 0) a) (key-of-range classOf arity code starts (getD os i 0) a (k i h) e)
 
 as-many : (cs : List Choice) → length (tagsOf cs) ≡ length (offs cs)
 as-many [] = refl

@@ -4,7 +4,8 @@ use native.Mathlib.Omega.{arith}
 use Rattle.indexing_iter.specs.Classes.{classOf}
 use Rattle.index_writer.specs.Choices.{AllKnown}
 use Rattle.index_writer.proofs.ColumnLaws.{starts-below, offsets-known}
-use Rattle.indexing_builder.proofs.BuilderLaws.{checked, above, below, small, built-by}
+use Rattle.index_writer.proofs.IndexLaws.{checked, above, below, small}
+use Rattle.indexing_builder.proofs.BuilderLaws.{built-by}
 use borrow.Author.Needs.{needs}
 use Rattle.indexing_builder.proofs.build_line.Statement.{statement}
 use Rattle.indexing_builder.proofs.build_line.Tie as tie

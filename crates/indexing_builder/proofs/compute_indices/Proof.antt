@@ -4,7 +4,8 @@ use native.Mathlib.Omega.{arith}
 use Rattle.indexing_iter.specs.Classes.{classOf}
 use Rattle.indexing_iter.specs.declared.Checked.{Checked}
 use Rattle.indexing_iter.specs.Checks.{checkBuild}
-use Rattle.indexing_builder.proofs.BuilderLaws.{below, small, few, refused-by}
+use Rattle.index_writer.proofs.IndexLaws.{below, small, few}
+use Rattle.indexing_builder.proofs.BuilderLaws.{refused-by}
 use borrow.Author.Needs.{needs}
 use Rattle.indexing_builder.proofs.compute_indices.Statement.{statement}
 use Rattle.indexing_builder.proofs.compute_indices.Tie as tie

@@ -1,46 +1,29 @@
--- The first i offsets and tags stand. Assumes nothing.
+-- The offsets stand, and the first i tags. Assumes nothing.
 use mathlib.Core.Path.{_≡_, refl}
-use Prim.Native.Nat.{ℕ, _-_, suc}
+use Prim.Native.Nat.{ℕ, _-_}
 use native.Mathlib.Omega.{arith}
-use lib.ListN.{length, replicate, length-map, length-replicate, getD-replicate}
+use lib.ListN.{length, replicate, length-replicate, getD-replicate}
 use Rattle.records.proofs.Filled.{Filled, fill-start, fill-more}
-use Rattle.indexing_iter.specs.Clauses.{offsetsOf}
-use Rattle.index_writer.proofs.ColumnLaws.{fill-whole, getD-offsets}
+use Rattle.index_writer.proofs.ColumnLaws.{fill-whole}
 use borrow.Author.Needs.{needs}
 use Rattle.index_writer.proofs.columns.start_choices.Statement.{statement}
 use Rattle.index_writer.proofs.columns.start_choices.Tie as tie
 
 abbrev Inv-loop : tie.InvT-loop
-Inv-loop starts offs₀ tags₀ n i₀ offs tags i = (n ≡ length starts) × (length (offsetsOf starts) ≡ n) × (length {A = ℕ} (replicate n 7) ≡ n)
-    × Filled (offsetsOf starts) offs₀ offs i × Filled {A = ℕ} (replicate n 7) tags₀ tags i
+Inv-loop starts offs tags₀ n i₀ tags i = (n ≡ length starts) × (length {A = ℕ} (replicate n 7) ≡ n) × Filled {A = ℕ} (replicate n 7) tags₀ tags i
 
 abbrev μ-loop : tie.MeasureT-loop
-μ-loop starts offs₀ tags₀ n i₀ offs tags i = n - i
+μ-loop starts offs tags₀ n i₀ tags i = n - i
+
+start-offsets-requires : tie.Need-start-offsets-requires Inv-loop μ-loop
+start-offsets-requires c κs = search needs
 
 loop-holds : tie.Need-loop-holds Inv-loop μ-loop
 loop-holds c =
-    let s = c .args .starts .now in
-    let n : ℕ = length s in
-    let l : length (offsetsOf s) ≡ n = length-map s suc in
-    let k = length-replicate {A = ℕ} n 7 in
-    (refl, l, k, fill-start (offsetsOf s) (c .args .offs .now) (omega arith), fill-start {A = ℕ} (replicate n 7) (c .args .tags .now) (omega arith))
-
-mul-offs : tie.Need-mul-offs Inv-loop μ-loop
-mul-offs c = search needs
-
-shared-slice-read-offs : tie.Need-shared-slice-read-offs Inv-loop μ-loop
-shared-slice-read-offs c = search needs
-
-add-offs : tie.Need-add-offs Inv-loop μ-loop
-add-offs c =
-    let l = c .before .before in
-    omega (arith, l .before .pre .1 (l .loop .i) (search needs))
-
-mul-offs-2 : tie.Need-mul-offs-2 Inv-loop μ-loop
-mul-offs-2 c = search needs
-
-slice-write-offs : tie.Need-slice-write-offs Inv-loop μ-loop
-slice-write-offs c = search needs
+    let s = c .before .before .before .before .before .before .before in
+    let n : ℕ = length (s .args .starts .now) in
+    let l = length-replicate {A = ℕ} n 7 in
+    (refl, l, fill-start {A = ℕ} (replicate n 7) (s .args .tags .now) (omega (arith, s)))
 
 slice-write-tags : tie.Need-slice-write-tags Inv-loop μ-loop
 slice-write-tags c = search needs
@@ -53,25 +36,19 @@ loop-less c = search needs
 
 loop-again : tie.Need-loop-again Inv-loop μ-loop
 loop-again c =
-    let l = c .before .before .loop in
-    let s = c .before .before .before .args .starts .now in (
-      refl,
-      l .inv .1,
-      l .inv .2,
-      fill-more _ 0 (l .inv .3) (omega arith) (getD-offsets s (l .i) (search needs)),
-      fill-more 7 0 (l .inv .4) (omega arith) (getD-replicate _ _ 7 0 (c .before .loop-test .taken)),
-    )
+    let l = c .before .loop in
+    (refl, l .inv .1, fill-more 7 0 (l .inv .2) (omega arith) (getD-replicate _ _ 7 0 (c .loop-test .taken)))
 
 same-length : tie.Need-same-length Inv-loop μ-loop
-same-length c = c .before .loop .inv .3 .same
+same-length c = search needs
 
 same-length-2 : tie.Need-same-length-2 Inv-loop μ-loop
-same-length-2 c = c .before .loop .inv .4 .same
+same-length-2 c = c .before .loop .inv .2 .same
 
 returns : tie.Need-returns Inv-loop μ-loop
 returns c =
     let l = c .before .loop in
-    (fill-whole (l .inv .3) (omega arith) (omega arith), fill-whole (l .inv .4) (omega arith) (omega arith))
+    (c .before .before .before .before .start-offsets .ensures, fill-whole (l .inv .2) (omega arith) (omega arith))
 
 pub start-choices-spec : {M : Type 1} → statement M
 start-choices-spec =
@@ -79,12 +56,8 @@ start-choices-spec =
     (tie.spec
     Inv-loop
     μ-loop
+    start-offsets-requires
     loop-holds
-    mul-offs
-    shared-slice-read-offs
-    add-offs
-    mul-offs-2
-    slice-write-offs
     slice-write-tags
     add-i
     loop-less

@@ -6,7 +6,8 @@ use native.Mathlib.Omega.{arith}
 use lib.ListN.{length}
 use Rattle.records.specs.declared.Rec.{Rec}
 use Rattle.indexing.specs.Columns.{switchRecs, newLinesRecs}
-use Rattle.indexing_builder.proofs.ExpansionLaws.{answer-none, answer-stored, switch-some}
+use Rattle.index_writer.proofs.IndexLaws.{switch-some}
+use Rattle.indexing_builder.proofs.ExpansionLaws.{answer-none, answer-stored}
 use borrow.Author.Needs.{needs}
 use Rattle.indexing_builder.proofs.expansion.expand_switch.Statement.{statement}
 use Rattle.indexing_builder.proofs.expansion.expand_switch.Tie as tie
