@@ -30,7 +30,8 @@ fn index_room(leaders: &[u32], heads: &[u32], sizes: &[u32], zeros: &[u32], open
 {
     let line = index_writer::rooms::seed_room(zeros, opens, settings, c);
     let switch = index_writer::buckets::switch_room(leaders, heads, settings.dynamic) - 1;
-    line + switch + index_writer::rooms::new_lines_room(leaders, heads, sizes, opens, settings, c)
+    let lines = index_writer::rooms::new_lines_room(leaders, heads, sizes, opens, settings, c);
+    line + switch + lines
 }
 
 // The size of the index of checked code, with columns for as many clauses as there are.

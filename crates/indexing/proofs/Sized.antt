@@ -90,19 +90,16 @@ by-checks Passed p S idx b true e = record {
   lacked = λ q. (refl, ltb-true (capacityOf b) (size idx) e);
   lacks = λ q h. refl;
   same = λ q. absurd (q refl);
-  counted = λ q. absurd (omega arith);
 }
 by-checks Passed p S idx b false e = record {
   lacked = λ q. absurd (omega arith);
   lacks = λ q h. absurd (omega (arith, ltb-false (capacityOf b) (size idx) e));
-  same = λ q. refl;
-  counted = λ q. refl;
+  same = λ q. (refl, refl);
 }
 by-checks (Refused n) p S idx b t e = record {
   lacked = λ q. absurd (omega (arith, p));
   lacks = λ q h. absurd (omega (arith, p));
-  same = λ q. refl;
-  counted = λ q. absurd (omega (arith, p));
+  same = λ q. (refl, refl);
 }
 
 pub size-tells : (cls : ℕ → ℕ) → SizeTells cls

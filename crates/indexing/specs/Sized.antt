@@ -11,10 +11,8 @@ pub record Tells (b : Built) (capacity : ℕ) (z : Sized) : Type 0 where
   -- 9 exactly where the size is accepted and the capacity is below its count
   pub lacked : b .number ≡ 9 → (z .number ≡ 0) × (capacity < z .count)
   pub lacks : z .number ≡ 0 → capacity < z .count → b .number ≡ 9
-  -- every other number is the size's own
-  pub same : (b .number ≡ 9 → ⊥) → b .number ≡ z .number
-  -- the index that was built has as many records
-  pub counted : b .number ≡ 0 → b .count ≡ z .count
+  -- otherwise number and count are the size's own
+  pub same : (b .number ≡ 9 → ⊥) → (b .number ≡ z .number) × (b .count ≡ z .count)
 
 abbrev pub SizeTells : (ℕ → ℕ) → Type 0
 SizeTells cls = (code starts : List ℕ) (S : Settings) (c : ℕ) (buffer : List ℕ)

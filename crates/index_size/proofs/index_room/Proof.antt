@@ -21,11 +21,11 @@ sub-switch c =
     let a = c .before .before .before .before .before .before .before .args in
     omega (arith, c .switch-room .ensures .0 (a .zeros .now) (a .zeros .now) (a .c) 1, switch-some (a .leaders .now) (a .heads .now) (a .zeros .now) (a .zeros .now) (a .settings .dynamic) (a .c) 1)
 
-add-result : tie.Need-add-result
-add-result c = search needs
-
 new-lines-room-requires : tie.Need-new-lines-room-requires
 new-lines-room-requires c κs = search needs
+
+add-result : tie.Need-add-result
+add-result c = search needs
 
 add-result-2 : tie.Need-add-result-2
 add-result-2 c = search needs
@@ -48,7 +48,7 @@ index-room-spec =
     seed-room-requires
     switch-room-requires
     sub-switch
-    add-result
     new-lines-room-requires
+    add-result
     add-result-2
     returns)
