@@ -4,3 +4,4 @@ pub mod SameKeys
 pub mod KeyLaws
 pub mod Parts
 pub mod Table
+pub mod Numbers

@@ -24,9 +24,10 @@ use Rattle.indexing_iter.specs.Clauses.{endOf, clausesOf}
 use Rattle.indexing_iter.specs.Checks.{numberOf, otherwise, refuse, risingBelow, isBody, hasBody, recordBad, registerBad, registerStep, checkRecords, checkClause, checkClauses, checkKeyed, openSomewhere}
 use Rattle.indexing_iter.specs.Faults.{firstAt, isRefused, refusedAt, openAt, badAt, bodyAt, recordFor, clauseFor, bare, faultAt, faultBy, checkWith, faultOf}
 use Rattle.indexing_iter.proofs.CheckLaws.{end-below, rising-head, rising-drop}
+use Rattle.indexing_iter.proofs.Numbers.{Within, records-number, clause-number}
 use Rattle.locate.specs.Inner.{checkFront, checkBack}
 use Rattle.locate.specs.First.{FirstRefused, FirstOpen, LastOf, FirstBad, FirstBody, FirstAtFault}
-use Rattle.locate.proofs.LocateLaws.{badFrom, badStep, bad-cons, bad-whole, Within, records-number, clause-number, front-number, front-passed, in-order, length-clauses, clause-is, clause-some}
+use Rattle.locate.proofs.LocateLaws.{badFrom, badStep, bad-cons, bad-whole, front-number, front-passed, in-order, length-clauses, clause-is, clause-some}
 
 -- ---- the first item that passes a test: none before it does
 

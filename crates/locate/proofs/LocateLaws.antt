@@ -25,6 +25,7 @@ use Rattle.indexing_iter.specs.Checks.{numberOf, otherwise, refuse, risingBelow
 use Rattle.indexing_iter.specs.Faults.{firstAt, fronts, isRefused, refusedAt, openAt, badAt, bodyAt, bare, faultAt, faultBy, checkWith, faultOf}
 use Rattle.indexing_iter.proofs.Parts.{slice-step, slice-done}
 use Rattle.indexing_iter.proofs.CheckLaws.{drop-step, rising-head, rising-drop, passed-both, arity-passed, chosen-passed, rising-passed}
+use Rattle.indexing_iter.proofs.Numbers.{Within, within-cond, within-otherwise, within-refuse, clause-number}
 use Rattle.locate.specs.Inner.{checkChosenWith, checkFront, checkBack}
 
 -- ---- the first item that passes a test
@@ -183,50 +184,12 @@ none-open cls c (rs ∷ cs) h = go (isOpen (keyIn cls rs c)) h (none-open cls c 
 
 -- ---- which numbers there are
 
--- a refusal's number is from low up to high
-abbrev pub Within : ℕ → ℕ → Checked → Type 0
-Within low high Passed = Unit {0}
-Within low high (Refused n) = (low ≤ n) × (n ≤ high)
-
-within-cond : (low high : ℕ) (t : Bool) (a b : Checked) → Within low high a → Within low high b → Within low high (cond t a b)
-within-cond low high true a b p q = p
-within-cond low high false a b p q = q
-
-within-otherwise : (low high : ℕ) (a b : Checked) → Within low high a → Within low high b → Within low high (otherwise a b)
-within-otherwise low high Passed b p q = q
-within-otherwise low high (Refused n) b p q = p
-
-within-step : (a : InstructionArg) (arity last : ℕ) (rest : ℕ → Checked) → ((l : ℕ) → Within 6 7 (rest l)) → Within 6 7 (registerStep a arity last rest)
-within-step NonHead arity last rest f = tt
-within-step Prologue arity last rest f = f last
-within-step ArglessHead arity last rest f = f last
-within-step (ArgedHead reg key) arity last rest f = within-cond 6 7 (registerBad arity last reg) (Refused 7) (rest reg) (omega arith, omega arith) (f reg)
-
-pub records-number : (cls : ℕ → ℕ) (arity : ℕ) (rs : List Rec) (last : ℕ) → Within 6 7 (checkRecords cls arity rs last)
-unfolding checkRecords
-records-number cls arity [] last = tt
-records-number cls arity (r ∷ rs) last =
-    within-cond 6 7 (recordBad (cls (r .kind)) r) (Refused 6) (registerStep (instructionArg cls r) arity last (checkRecords cls arity rs))
-    (omega arith, omega arith) (within-step (instructionArg cls r) arity last (checkRecords cls arity rs) (records-number cls arity rs))
-
-widen : (k : Checked) → Within 6 7 k → Within 5 7 k
-widen Passed p = tt
-widen (Refused n) p = (omega (arith, p), p .1)
-
-pub clause-number : (cls : ℕ → ℕ) (arity : ℕ) (rs : List Rec) → Within 5 7 (checkClause cls arity rs)
-unfolding checkClause
-clause-number cls arity rs =
-    within-cond 5 7 (hasBody cls rs) (checkRecords cls arity rs 0) (Refused 5) (widen (checkRecords cls arity rs 0) (records-number cls arity rs 0)) (omega arith, omega arith)
-
-within-refuse : (met : Bool) (n : ℕ) → (1 ≤ n) × (n ≤ 4) → Within 1 4 (refuse met n)
-within-refuse met n p = within-cond 1 4 met (Refused n) Passed p tt
-
 pub front-number : (arity c : ℕ) (code starts : List ℕ) → Within 1 4 (checkFront arity c code starts)
 front-number arity c code starts =
     within-otherwise 1 4 (checkChosenWith arity c) (otherwise (checkSize code) (checkStarts (length code / 16) starts))
-    (within-otherwise 1 4 (checkArity arity) (cond (eqb c 0) Passed (checkChosen arity c)) (within-refuse (not (leb 1 arity && leb arity 32)) 1 (omega arith, omega arith))
-    (within-cond 1 4 (eqb c 0) Passed (checkChosen arity c) tt (within-refuse (eqb c 0 || ltb arity c) 2 (omega arith, omega arith))))
-    (within-otherwise 1 4 (checkSize code) (checkStarts (length code / 16) starts) (within-refuse (not (eqb (length code % 16) 0) || ltb 32768 (length code / 16)) 3 (omega arith, omega arith)) (within-refuse (not (leb 1 (length starts) && (leb (length starts) 1024 && risingBelow (length code / 16) starts))) 4 (omega arith, omega arith)))
+    (within-otherwise 1 4 (checkArity arity) (cond (eqb c 0) Passed (checkChosen arity c)) (within-refuse 1 4 (not (leb 1 arity && leb arity 32)) 1 (omega arith, omega arith))
+    (within-cond 1 4 (eqb c 0) Passed (checkChosen arity c) tt (within-refuse 1 4 (eqb c 0 || ltb arity c) 2 (omega arith, omega arith))))
+    (within-otherwise 1 4 (checkSize code) (checkStarts (length code / 16) starts) (within-refuse 1 4 (not (eqb (length code % 16) 0) || ltb 32768 (length code / 16)) 3 (omega arith, omega arith)) (within-refuse 1 4 (not (leb 1 (length starts) && (leb (length starts) 1024 && risingBelow (length code / 16) starts))) 4 (omega arith, omega arith)))
 
 -- what the checks before the clauses' tell
 pub front-passed : (arity c : ℕ) (code starts : List ℕ) → checkFront arity c code starts ≡ Passed → (c ≤ 32) × (risingBelow (length (recordsOf code)) starts ≡ true)
