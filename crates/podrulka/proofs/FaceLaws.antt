@@ -5,7 +5,9 @@ use mathlib.Core.List.{List, []}
 use Rattle.indexing_iter.specs.declared.Checked.{Checked}
 use Rattle.indexing_iter.specs.declared.Checked.the-variants.{Passed, Refused}
 use Rattle.indexing_iter.specs.Checks.{numberOf}
-use Rattle.indexing.specs.Builder.{Built}
+use Rattle.indexing.specs.Builder.{Built, Sized}
+use Rattle.index_size.specs.declared.SizeAnswer.{SizeAnswer}
+use Rattle.index_size.specs.Answer.{sizedOf}
 use Rattle.indexing_builder.specs.declared.BuildAnswer.{BuildAnswer}
 use Rattle.indexing_builder.specs.declared.BuildAnswer.the-variants.{Done, Refused as RefusedBuild}
 use Rattle.indexing_builder.specs.Answer.{builtOf}
@@ -15,7 +17,7 @@ use Rattle.indexing_walk.specs.Answers.{walkedOf}
 use Rattle.indexing_scan.specs.declared.witness.Witnessed.{Witnessed}
 use Rattle.indexing_scan.specs.Calls.{Walked}
 use Rattle.indexing_scan.specs.Witness.{numberIn, Witnesses}
-use Rattle.podrulka.specs.Face.{laid, builtNumbers, walkedNumbers, witnessedNumbers, Found}
+use Rattle.podrulka.specs.Face.{laid, builtNumbers, sizedNumbers, walkedNumbers, witnessedNumbers, Found}
 
 -- the builder's number does not depend on the buffer, nor do its other numbers
 built-number : (a : BuildAnswer) (index : List ℕ) → builtOf a [] .number ≡ builtOf a index .number
@@ -37,6 +39,11 @@ built-face a B index before after n e h =
     (h .0 ∙ built-number a index ∙ ap (λ (b : Built). b .number) e,
     (built-index a index ∙ ap (λ (b : Built). b .index) e,
     h .1 ∙ ap (λ (vs : List ℕ). laid vs before) (built-numbers a index ∙ ap (λ (b : Built). builtNumbers b) e)))
+
+-- the size's
+pub sized-face : (a : SizeAnswer) (Z : Sized) (before after : List ℕ) (n : ℕ) → sizedOf a ≡ Z
+    → (n ≡ sizedOf a .number) × (after ≡ laid (sizedNumbers (sizedOf a)) before) → (n ≡ Z .number) × (after ≡ laid (sizedNumbers Z) before)
+sized-face a Z before after n e h = (h .0 ∙ ap (λ (z : Sized). z .number) e, h .1 ∙ ap (λ (z : Sized). laid (sizedNumbers z) before) e)
 
 -- the same of the walk's numbers, with index and out
 walked-number : (a : WalkAnswer) (index out : List ℕ) → walkedOf a [] [] .number ≡ walkedOf a index out .number

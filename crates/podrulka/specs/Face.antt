@@ -8,7 +8,8 @@ use lib.Dec.{eqb}
 use lib.ListN.{length, take, drop}
 use Rattle.indexing_iter.specs.declared.Settings.{Settings}
 use Rattle.indexing_iter.specs.declared.Checked.{Checked}
-use Rattle.indexing.specs.Builder.{Built}
+use Rattle.indexing_iter.specs.declared.Fault.{Fault}
+use Rattle.indexing.specs.Builder.{Built, Sized}
 use Rattle.indexing_scan.specs.declared.witness.Witnessed.{Witnessed}
 use Rattle.indexing_scan.specs.Calls.{Walked}
 use Rattle.indexing_scan.specs.Witness.{numberIn, offsetIn, Witnesses}
@@ -28,6 +29,12 @@ laid values array = take (length array) values ++ drop (length values) array
 
 abbrev pub builtNumbers : Built → List ℕ
 builtNumbers b = b .number ∷ b .count ∷ b .variable ∷ []
+
+abbrev pub sizedNumbers : Sized → List ℕ
+sizedNumbers z = z .number ∷ z .count ∷ []
+
+abbrev pub faultNumbers : Fault → List ℕ
+faultNumbers f = f .number ∷ f .clause ∷ f .at ∷ []
 
 abbrev pub walkedNumbers : Walked → List ℕ
 walkedNumbers w = w .number ∷ w .case ∷ w .line ∷ w .count ∷ w .tables ∷ w .mark ∷ w .records ∷ []

@@ -1,5 +1,6 @@
-// The face for programs in C and Rust: builder, walk and witness over slices and numbers, with the results as numbers in a lent array.
+// The face for programs in C and Rust: builder, size, fault, walk and witness over slices and numbers, with the results as numbers in a lent array.
 // include/podrulka.h declares the functions and says what each number means.
+use index_size::SizeAnswer;
 use indexing_builder::BuildAnswer;
 use indexing_iter::Settings;
 use indexing_scan::witness::Witnessed;
@@ -11,12 +12,14 @@ ghost use mathlib.Core.List.{[]};
 ghost use Prim.Native.Nat.{_<_};
 ghost use Rattle.indexing_iter.specs.Checks.{numberOf};
 ghost use Rattle.indexing_iter.specs.Classes.{classOf};
-ghost use Rattle.indexing.specs.Builder.{buildCall};
+ghost use Rattle.indexing_iter.specs.Faults.{faultOf};
+ghost use Rattle.indexing.specs.Builder.{buildCall, sizeCall};
 ghost use Rattle.indexing_scan.specs.Calls.{walkCall, witnessChecks, agreeing};
 ghost use Rattle.indexing_scan.specs.Witness.{numberIn};
 ghost use Rattle.indexing_builder.specs.Answer.{builtOf};
+ghost use Rattle.index_size.specs.Answer.{sizedOf};
 ghost use Rattle.indexing_walk.specs.Answers.{walkedOf};
-ghost use Rattle.podrulka.specs.Face.{flagOf, settingsBy, laid, builtNumbers, walkedNumbers, witnessedNumbers, Found};
+ghost use Rattle.podrulka.specs.Face.{flagOf, settingsBy, laid, builtNumbers, sizedNumbers, faultNumbers, walkedNumbers, witnessedNumbers, Found};
 
 // The flag whose value is k.
 fn flag(flags: u32, k: u32) -> bool
@@ -67,6 +70,25 @@ fn lay_built(a: BuildAnswer, result: &mut [u64]) -> u32
         }
         BuildAnswer::Refused(number) => {
             let values = [number as u64, 0, 0];
+            lay(&values, result);
+            number
+        }
+    }
+}
+
+// Writes the size's answer, and returns its number.
+fn lay_sized(a: SizeAnswer, result: &mut [u64]) -> u32
+    ensures { λ r. ⌜ r ≡ sizedOf a .number ⌝ }
+    ensures { λ _. ⌜ now (result .exit) ≡ laid (sizedNumbers (sizedOf a)) (now (result .entry)) ⌝ }
+{
+    match a {
+        SizeAnswer::Needs(count) => {
+            let values = [0u64, count as u64];
+            lay(&values, result);
+            0
+        }
+        SizeAnswer::Refused(number) => {
+            let values = [number as u64, 0];
             lay(&values, result);
             number
         }
@@ -138,6 +160,46 @@ pub extern "C" fn podrulka_build(
     let settings = settings_by(arity, mask, flags);
     let a = indexing_builder::compute_indices(code, starts, settings, c, index);
     lay_built(a, result)
+}
+
+// The size of the index that the builder would write, whatever the room. Returns 0 or the refusal's number; result gets number, record count.
+#[no_mangle]
+pub extern "C" fn podrulka_size(
+    code: &[u8],
+    starts: &[u32],
+    arity: u32,
+    mask: u32,
+    flags: u32,
+    c: u64,
+    result: &mut [u64],
+) -> u32
+    ensures { λ r. ⌜ r ≡ sizeCall classOf (now (code .entry)) (now (starts .entry)) (settingsBy arity mask flags) c .number ⌝ }
+    ensures { λ _. ⌜ now (result .exit) ≡ laid (sizedNumbers (sizeCall classOf (now (code .entry)) (now (starts .entry)) (settingsBy arity mask flags) c)) (now (result .entry)) ⌝ }
+{
+    let settings = settings_by(arity, mask, flags);
+    let a = index_size::index_size(code, starts, settings, c);
+    lay_sized(a, result)
+}
+
+// What refuses code, starts, arity and c, c 0 for none; mask and flags refuse nothing. Returns 0; result gets the number, and the clause and
+// the record first at fault.
+#[no_mangle]
+pub extern "C" fn podrulka_locate(
+    code: &[u8],
+    starts: &[u32],
+    arity: u32,
+    mask: u32,
+    flags: u32,
+    c: u64,
+    result: &mut [u64],
+) -> u32
+    ensures { λ r. ⌜ r ≡ 0 ⌝ }
+    ensures { λ _. ⌜ now (result .exit) ≡ laid (faultNumbers (faultOf classOf arity c (now (code .entry)) (now (starts .entry)))) (now (result .entry)) ⌝ }
+{
+    let f = locate::locate(code, starts, arity, c);
+    let values = [f.number as u64, f.clause as u64, f.at as u64];
+    lay(&values, result);
+    0
 }
 
 // The walk of a call through an index of count records. Returns 0 or the refusal's number; result gets number, case, line, count of offsets
