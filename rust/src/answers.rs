@@ -1,4 +1,5 @@
 //! Settings, and the archive's numbers taken apart.
+use crate::locate;
 use crate::numbers::{DYNAMIC, EXTENSIBLE, NON_COUNTED, SKIP};
 use std::fmt;
 
@@ -57,11 +58,11 @@ impl Built {
     /// The numbers of [`numbers::build`](crate::numbers::build) taken apart.
     ///
     /// # Errors
-    /// The refusal, if they are one's.
+    /// The refusal, if they are one's; it has no place, which [`Refusal::located`] adds.
     pub fn from_numbers(result: [u64; 3]) -> Result<Built, Refusal> {
         match result {
             [0, count, variable] => Ok(Built { count: count as usize, variable_offset: variable as u32 }),
-            [number, ..] => Err(Refusal(number as u32)),
+            [number, ..] => Err(Refusal::new(number as u32)),
         }
     }
 }
@@ -100,13 +101,13 @@ impl Walked {
     /// The numbers of [`numbers::walk`](crate::numbers::walk) taken apart.
     ///
     /// # Errors
-    /// The refusal, if they are one's.
+    /// The refusal, if they are one's; it has no place, which [`Refusal::located`] adds.
     ///
     /// # Panics
     /// If no walk gives these numbers: number 0 with a case that is not 1 to 4.
     pub fn from_numbers(result: [u64; 7]) -> Result<Walked, Refusal> {
         let [0, case, line, count, tables, mark, records] = result else {
-            return Err(Refusal(result[0] as u32));
+            return Err(Refusal::new(result[0] as u32));
         };
         let case = match case {
             1 => Case::Fail,
@@ -120,14 +121,57 @@ impl Walked {
     }
 }
 
-/// A refusal and its number, the first that applies.
+/// Where the code is first at fault.
 #[derive(Debug, Clone, Copy, PartialEq, Eq, Hash)]
-pub struct Refusal(pub u32);
+pub struct Place {
+    /// The first clause that is refused, counted from 0: the one that begins at `starts[clause]`.
+    pub clause: usize,
+    /// The record of the code, counted from 0. With 5 the clause's last record, with 6 and 7 the record that is wrong,
+    /// with 8 the clause's first body record.
+    pub record: usize,
+}
+
+/// A refusal: its number, the first that applies, and the place of what it refuses.
+#[derive(Debug, Clone, Copy, PartialEq, Eq, Hash)]
+pub struct Refusal {
+    /// The number, 1 to 12.
+    pub number: u32,
+    /// With 5 to 8 where the code is first at fault. None with the other numbers, and in what `from_numbers` gives.
+    pub place: Option<Place>,
+}
 
 impl Refusal {
+    /// A refusal without a place.
+    pub const fn new(number: u32) -> Self {
+        Refusal { number, place: None }
+    }
+
+    /// The refusal with its place, if it has 5 to 8. All else is what the refused call was handed; `c` is None after a
+    /// walk or a witness. For programs that use [`numbers`](crate::numbers); the crate's functions have done it.
+    ///
+    /// ```
+    /// use podrulka::{numbers, Place, Record, Refusal, Settings, Walked};
+    ///
+    /// let code = Record::bytes(&[Record::BODY, Record::atom_in(2, 7), Record::BODY]); // no register 2 with arity 1
+    /// let result = numbers::walk(&code, &[0, 1], 1, 0, 0, &[], &mut [], 0, &mut []);
+    /// let refusal = Walked::from_numbers(result).unwrap_err();
+    /// assert_eq!(refusal, Refusal { number: 7, place: None });
+    /// let place = refusal.located(&code, &[0, 1], &Settings::new(1), None).place;
+    /// assert_eq!(place, Some(Place { clause: 1, record: 1 }));
+    /// ```
+    pub fn located(self, code: &[u8], starts: &[u32], settings: &Settings, c: Option<u64>) -> Self {
+        if !(5..=8).contains(&self.number) {
+            return self;
+        }
+        match locate(code, starts, settings, c) {
+            Some(found) if found.number == self.number => found,
+            _ => self,
+        }
+    }
+
     /// What the number says, in words.
     pub fn reason(self) -> &'static str {
-        match self.0 {
+        match self.number {
             1 => "the arity is not 1 to 32",
             2 => "the chosen argument is 0 or above the arity",
             3 => "the code is not whole records, or more than 32,768 of them",
@@ -139,7 +183,7 @@ impl Refusal {
             9 => "the built index has more records than the buffer has room for",
             10 => "the call is not one well-made record for each argument",
             11 => "out has fewer places than there are clauses",
-            12 => "the index is not well formed",
+            12 => "the record count is above the capacity, or the records are not a well-formed index",
             _ => "no such number",
         }
     }
@@ -147,7 +191,11 @@ impl Refusal {
 
 impl fmt::Display for Refusal {
     fn fmt(&self, f: &mut fmt::Formatter<'_>) -> fmt::Result {
-        write!(f, "refused {}: {}", self.0, self.reason())
+        write!(f, "refused {}: {}", self.number, self.reason())?;
+        match self.place {
+            Some(Place { clause, record }) => write!(f, " (clause {clause}, record {record})"),
+            None => Ok(()),
+        }
     }
 }
 
@@ -174,8 +222,8 @@ mod tests {
     fn numbers_taken_apart() {
         let walked = Walked { case: Case::Sequence, line: 1, count: 2, tables: 4, stored: false, records: 5 };
         assert_eq!(Walked::from_numbers([0, 3, 1, 2, 4, 1, 5]), Ok(walked));
-        assert_eq!(Walked::from_numbers([12, 0, 0, 0, 0, 0, 0]), Err(Refusal(12)));
+        assert_eq!(Walked::from_numbers([12, 0, 0, 0, 0, 0, 0]), Err(Refusal::new(12)));
         assert_eq!(Built::from_numbers([0, 12, 2]), Ok(Built { count: 12, variable_offset: 2 }));
-        assert_eq!(Built::from_numbers([9, 0, 0]), Err(Refusal(9)));
+        assert_eq!(Built::from_numbers([9, 0, 0]), Err(Refusal::new(9)));
     }
 }

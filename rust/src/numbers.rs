@@ -1,7 +1,7 @@
 //! The archive's functions with slices for pointers and nothing else changed: settings as numbers, results as the array
-//! that the archive fills (`enum podrulka_built`, `podrulka_walked` and `podrulka_witnessed` of `podrulka.h` name its
-//! places; place 0 is the number, 0 if accepted). For programs that look at every number; others use the functions of
-//! the crate itself.
+//! that the archive fills (`enum podrulka_built`, `podrulka_walked`, `podrulka_witnessed`, `podrulka_sized` and
+//! `podrulka_located` of `podrulka.h` name its places; place 0 is the number, 0 if accepted). For programs that look at
+//! every number; others use the functions of the crate itself.
 
 #[rustfmt::skip]
 extern "C" {
@@ -21,6 +21,18 @@ extern "C" {
     fn podrulka_witness(
         code: *const u8, code_len: usize, starts: *const u32, starts_len: usize,
         arity: u32, mask: u32, flags: u32, call: *const u8, call_len: usize,
+        result: *mut u64, result_len: usize,
+    ) -> u32;
+
+    fn podrulka_size(
+        code: *const u8, code_len: usize, starts: *const u32, starts_len: usize,
+        arity: u32, mask: u32, flags: u32, c: u64,
+        result: *mut u64, result_len: usize,
+    ) -> u32;
+
+    fn podrulka_locate(
+        code: *const u8, code_len: usize, starts: *const u32, starts_len: usize,
+        arity: u32, mask: u32, flags: u32, c: u64,
         result: *mut u64, result_len: usize,
     ) -> u32;
 }
@@ -124,6 +136,50 @@ pub fn witness(code: &[u8], starts: &[u32], arity: u32, mask: u32, flags: u32, c
     result
 }
 
+/// `podrulka_size`: number, count.
+pub fn size(code: &[u8], starts: &[u32], arity: u32, mask: u32, flags: u32, c: u64) -> [u64; 2] {
+    let mut result = [u64::MAX; 2];
+    // SAFETY: see above.
+    let number = unsafe {
+        podrulka_size(
+            code.as_ptr(),
+            code.len(),
+            starts.as_ptr(),
+            starts.len(),
+            arity,
+            mask,
+            flags,
+            c,
+            result.as_mut_ptr(),
+            result.len(),
+        )
+    };
+    same(number, result[0]);
+    result
+}
+
+/// `podrulka_locate`: the number of what refuses, clause, record. `c` 0: without c.
+pub fn locate(code: &[u8], starts: &[u32], arity: u32, mask: u32, flags: u32, c: u64) -> [u64; 3] {
+    let mut result = [u64::MAX; 3];
+    // SAFETY: see above.
+    let number = unsafe {
+        podrulka_locate(
+            code.as_ptr(),
+            code.len(),
+            starts.as_ptr(),
+            starts.len(),
+            arity,
+            mask,
+            flags,
+            c,
+            result.as_mut_ptr(),
+            result.len(),
+        )
+    };
+    debug_assert_eq!(number, 0, "it reports and never refuses");
+    result
+}
+
 /// The archive returns the number that it also lays at the result's first place.
 fn same(returned: u32, laid: u64) {
     debug_assert_eq!(u64::from(returned), laid);
@@ -152,6 +208,32 @@ mod tests {
         }
     }
 
+    /// The same of size and locate: the second clause's register is 0.
+    #[test]
+    fn sizes_and_places_of_any_length() {
+        let wrong = [Record::list_in(1), Record::BODY, Record::list_in(0), Record::BODY];
+        let (right, wrong) = (Record::bytes(&wrong[..2]), Record::bytes(&wrong));
+        for places in 0..6 {
+            let (mut sized, mut located) = ([77; 6], [77; 6]);
+            // SAFETY: see above; the results have at least so many places.
+            let numbers = unsafe {
+                let sized = sized.as_mut_ptr();
+                let located = located.as_mut_ptr();
+                let (right, wrong, len) = (right.as_ptr(), wrong.as_ptr(), wrong.len());
+                (
+                    podrulka_size(right, len / 2, [0].as_ptr(), 1, 1, 0, 0, 1, sized, places),
+                    podrulka_locate(wrong, len, [0, 2].as_ptr(), 2, 1, 0, 0, 1, located, places),
+                )
+            };
+            assert_eq!(numbers, (0, 0));
+            for (result, expected) in [(sized, &[0, 4][..]), (located, &[7, 1, 2])] {
+                let laid = places.min(expected.len());
+                assert_eq!(result[..laid], expected[..laid]);
+                assert!(result[laid..].iter().all(|&place| place == 77));
+            }
+        }
+    }
+
     /// Flags beyond the four are not read.
     #[test]
     fn other_flags_are_not_read() {
@@ -161,6 +243,7 @@ mod tests {
             let plain = build(&code, &[0], 1, 0, flags, 1, &mut few);
             assert_eq!(build(&code, &[0], 1, u32::MAX, flags | !15, 1, &mut many), plain);
             assert_eq!(few, many);
+            assert_eq!(size(&code, &[0], 1, u32::MAX, flags | !15, 1), [0, plain[1]]);
         }
     }
 }

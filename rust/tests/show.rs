@@ -189,9 +189,27 @@ fn refusals_of_the_walk() {
 #[test]
 fn refusals_have_words() {
     assert_eq!(
-        Refusal(4).to_string(),
+        Refusal::new(4).to_string(),
         "refused 4: no starts, more than 1,024, not strictly rising, or one at or past the code's end"
     );
     let refused = witness(&code(), &STARTS, &Settings::new(33), &[]);
-    assert_eq!(refused, Err(Refusal(1)));
+    assert_eq!(refused, Err(Refusal::new(1)));
+}
+
+/// The words of the numbers are those of the header's `podrulka_message`, in its order.
+#[test]
+fn words_of_the_header() {
+    let header = include_str!("../../include/podrulka.h");
+    let message = header.split("podrulka_message(").nth(1).expect("podrulka_message in the header");
+    let mut literals: Vec<String> = vec![];
+    let mut parts = message.split('"');
+    while let (Some(between), Some(literal)) = (parts.next(), parts.next()) {
+        match literals.last_mut() {
+            Some(last) if between.trim().is_empty() => last.push_str(literal), // one literal on two lines
+            _ => literals.push(literal.to_string()),
+        }
+    }
+    let words: Vec<&str> = (1..=12).map(|number| Refusal::new(number).reason()).collect();
+    let first = literals.iter().position(|literal| literal == words[0]).expect("the words of 1");
+    assert_eq!(literals[first..].iter().take(12).collect::<Vec<_>>(), words);
 }
