@@ -98,6 +98,42 @@ uint32_t build_number(const struct program *p, uint64_t c) {
     return n;
 }
 
+/* The record itself is wrong, or its register beside those before it in the clause: what 6 and 7 say of one record, by looking back. */
+static bool record_wrong(const struct program *p, size_t start, size_t at) {
+    struct record r = code_at(p, at);
+    if (key_wrong(r)) return true;
+    if (!keyed(r) || is_body(r)) return false;
+    bool risen = r.word >= 1 && r.word <= p->arity;
+    for (size_t before = start; before < at; before++)
+        if (keyed(code_at(p, before)) && code_at(p, before).word >= r.word) risen = false;
+    return !risen;
+}
+
+static size_t first_body(const struct program *p, size_t i) {
+    size_t at = p->starts[i];
+    while (at < clause_end(p, i) && !is_body(code_at(p, at))) at++;
+    return at;
+}
+
+/* 5 to 7 of clause i, with the record */
+static struct fault clause_fault(const struct program *p, size_t i) {
+    size_t body = first_body(p, i);
+    if (body == clause_end(p, i)) return (struct fault){ 5, i, body - 1 };
+    for (size_t at = p->starts[i]; at <= body; at++)
+        if (record_wrong(p, p->starts[i], at)) return (struct fault){ key_wrong(code_at(p, at)) ? 6 : 7, i, at };
+    return (struct fault){ 0, 0, 0 };
+}
+
+struct fault fault_of(const struct program *p, uint64_t c) {
+    struct fault f = { c ? build_number(p, c) : code_number(p), 0, 0 };
+    if (f.number < 5) return f;
+    for (size_t i = 0; i < p->starts_len; i++)
+        if (clause_fault(p, i).number) return clause_fault(p, i);
+    for (size_t i = 0; i < p->starts_len; i++)
+        if (clause_key(p, i, (uint32_t)c).sort == 0) return (struct fault){ 8, i, first_body(p, i) };
+    return (struct fault){ 0, 0, 0 };
+}
+
 /* section 2 */
 struct key clause_key(const struct program *p, size_t i, uint32_t argument) {
     struct key none = { 0, 0, 0 };
@@ -115,6 +151,38 @@ struct key clause_key(const struct program *p, size_t i, uint32_t argument) {
 }
 
 static bool same(struct key a, struct key b) { return a.sort == b.sort && a.arity == b.arity && a.bits == b.bits; }
+
+/* section 3, counted: a line's own record, its offsets, and its tables above c */
+static size_t line_count(const struct program *p, uint32_t c, const size_t *clauses, size_t n) {
+    size_t count = 1 + n;
+    for (uint32_t a = c + 1; a <= p->arity; a++) {
+        size_t open = 0;
+        if (p->mask >> (a - 1) & 1) continue;
+        for (size_t i = 0; i < n; i++) open += clause_key(p, clauses[i], a).sort == 0;
+        if (open == 0) count++;
+        else if (p->flags & PODRULKA_EXTENSIBLE) count += 1 + open;
+    }
+    return count;
+}
+
+size_t built_count(const struct program *p, uint32_t c) {
+    static size_t clauses[PODRULKA_MAX_CLAUSES];
+    size_t n, count;
+    bool dynamic = p->flags & PODRULKA_DYNAMIC, list = false;
+    for (n = 0; n < p->starts_len; n++) clauses[n] = n;
+    count = line_count(p, c, clauses, n) + 1; /* line 0 and its switch; then its entries, each with its line */
+    for (size_t i = 0; i < p->starts_len; i++) {
+        struct key k = clause_key(p, i, c);
+        n = 0;
+        for (size_t j = 0; j < p->starts_len; j++)
+            if (same(k, clause_key(p, j, c))) clauses[n++] = j;
+        if (clauses[0] < i) continue; /* an earlier clause's key */
+        count += 1 + (n > 1 || dynamic ? line_count(p, c, clauses, n) : 0);
+        list |= k.sort == PODRULKA_LIST;
+    }
+    if (dynamic && !list) count += 1 + line_count(p, c, clauses, 0);
+    return count;
+}
 
 bool agrees(const struct program *p, size_t i, const uint8_t *call) {
     for (uint32_t a = 1; a <= p->arity; a++) {

@@ -21,7 +21,7 @@ struct key {
     uint64_t bits;
 };
 
-/* what builder, walk and witness are handed alike */
+/* what every call is handed alike */
 struct program {
     const uint8_t *code;
     size_t code_len;
@@ -37,6 +37,15 @@ void put(uint8_t *at, struct record r);
 uint32_t code_number(const struct program *p);
 /* the first of 1 to 8 that applies, or 0 */
 uint32_t build_number(const struct program *p, uint64_t c);
+/* what refuses, and for 5 to 8 the clause and the record of the code that are first at fault, else zeros */
+struct fault {
+    uint32_t number;
+    size_t clause, record;
+};
+/* the first of 1 to 8 that applies; c 0: of 1 and 3 to 7 */
+struct fault fault_of(const struct program *p, uint64_t c);
+/* of code that no number refuses: the records of its index, whatever the room */
+size_t built_count(const struct program *p, uint32_t c);
 /* 10 or 0 */
 uint32_t call_number(const struct program *p, const uint8_t *call, size_t call_len);
 /* number 12 does not apply */

@@ -1,4 +1,4 @@
-/* How much stack the three calls use: the largest inputs, each on a thread whose stack was painted.  usage: stack
+/* How much stack the calls use: the largest inputs, each on a thread whose stack was painted.  usage: stack
  *
  * Compiled with EXACT and MEMCHECK it makes the same calls for memcheck and measures nothing.
  *
@@ -14,7 +14,7 @@
 #include <sys/mman.h>
 
 enum { ARITY = 32, CLAUSES = 1024, STACK = 4 << 20, MOST = PODRULKA_MAX_INDEX };
-enum which { NOTHING, BUILD, WALK, WITNESS };
+enum which { NOTHING, BUILD, WALK, WITNESS, SIZE, LOCATE };
 
 /* the buffers end at fences */
 static uint8_t *code, *call, *index_at, kept[MOST * RECORD], *stack;
@@ -30,6 +30,8 @@ static uint32_t do_call(void) {
     case WALK: return podrulka_walk(code, code_len, starts, starts_len, ARITY, 0, flags, call, ARITY * RECORD, index_at, index_len, count, out, CLAUSES, result,
                                     PODRULKA_WALKED_PLACES);
     case WITNESS: return podrulka_witness(code, code_len, starts, starts_len, ARITY, 0, flags, call, ARITY * RECORD, result, PODRULKA_WITNESSED_PLACES);
+    case SIZE: return podrulka_size(code, code_len, starts, starts_len, ARITY, 0, flags, 1, result, PODRULKA_SIZED_PLACES);
+    case LOCATE: return podrulka_locate(code, code_len, starts, starts_len, ARITY, 0, flags, 1, result, PODRULKA_LOCATED_PLACES);
     default: return 0;
     }
 }
@@ -57,7 +59,7 @@ static void once(void) {
 
 /* the stack of one call; the index is as before at the end */
 static size_t measure(enum which w, const char *what) {
-    static const char *const names[] = { "nothing", "build", "walk", "witness" };
+    static const char *const names[] = { "nothing", "build", "walk", "witness", "size", "locate" };
     if (index_len) memcpy(kept, index_at, index_len);
     which = w, used = 0;
     for (paint = 0x6b;; paint = 0x94) {
@@ -110,6 +112,7 @@ static size_t full_index(void) {
     make_clauses(1022, 1, 2);
     build_it(MOST);
     most = measure(BUILD, "1,022 clauses of arity 32, dead tables");
+    most = larger(most, measure(SIZE, "the same clauses"));
     uint32_t line = 3;
     for (; count + 2 <= MOST; count += 2, line++) {
         put(index_at + count * RECORD, (struct record){ 1, 0, 0, line, 0 });
@@ -148,9 +151,23 @@ static size_t deep_walk(size_t room, uint32_t mode) {
     size_t need = build_it(MOST);
     build_it(need + room < MOST ? need + room : MOST);
     most = measure(BUILD, "1,024 clauses of arity 32, 31 keys each");
+    most = larger(most, measure(SIZE, "the same clauses"));
+    most = larger(most, measure(LOCATE, "the same clauses, nothing at fault"));
     bind(31, 1);
     most = larger(most, measure(WALK, room < MOST ? "expansions that do not fit" : "expansions at 30 arguments"));
     return larger(most, measure(WITNESS, "the same call"));
+}
+
+/* 1,024 clauses whose index no buffer has room for; then the last of them at fault */
+static size_t no_room(void) {
+    size_t most;
+    flags = PODRULKA_DYNAMIC | PODRULKA_EXTENSIBLE;
+    make_clauses(CLAUSES, 1, CLAUSES);
+    index_len = 0;
+    most = measure(SIZE, "1,024 clauses of arity 32, each with a line of its own");
+    printf("%zu records in that index\n", (size_t)result[PODRULKA_SIZED_COUNT]);
+    put(code + code_len - 2 * RECORD, (struct record){ 18, 0, 1, ARITY + 1, 0 });
+    return larger(most, measure(LOCATE, "the last clause's register is wrong"));
 }
 
 int main(void) {
@@ -162,7 +179,7 @@ int main(void) {
     out = fence_take(OUT, CLAUSES * sizeof *out, false);
     result = fence_take(RESULT, PODRULKA_WALKED_PLACES * sizeof *result, false);
     measure(NOTHING, "the thread itself");
-    most = full_index();
+    most = larger(full_index(), no_room());
     most = larger(most, wide_switch(MOST - 3, 1, "a switch of 65,532 entries"));
     most = larger(most, wide_switch(2000, 4294967291, "a switch of 2,000 entries, all in one bucket"));
     most = larger(most, wide_switch(1024, 1021, "a switch of 1,024 entries, all in one bucket"));

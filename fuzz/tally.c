@@ -10,9 +10,10 @@ __attribute__((section("__libfuzzer_extra_counters"))) static uint8_t counters[F
 
 static uint64_t numbers[CALL_KINDS][NUMBERS], cases[CALL_KINDS][5][2], executions;
 
-static const char *const names[CALL_KINDS] = { "build", "walk, built", "walk, handed in", "witness" };
-/* the numbers that a call may give: bit n for number n; the code of a built index has passed 1 to 9, and the index is well formed */
-static const uint32_t due[CALL_KINDS] = { 0x3ff, 0xc01, 0x1cfb, 0x4fb };
+static const char *const names[CALL_KINDS] = { "build", "walk, built", "walk, handed in", "witness", "size", "locate, c", "locate" };
+/* the numbers that a call may give, locate as what refuses: bit n for number n; the code of a built index has passed 1 to 9, and the index is
+ * well formed */
+static const uint32_t due[CALL_KINDS] = { 0x3ff, 0xc01, 0x1cfb, 0x4fb, 0x1ff, 0x1ff, 0xfb };
 
 void seen(enum feature subject, size_t value) {
     uint8_t *c = &counters[(size_t)subject * VALUES + (value < VALUES ? value : VALUES - 1)];

@@ -5,12 +5,13 @@
 #include <stddef.h>
 #include <stdint.h>
 
-enum call_kind { BUILD, WALK_BUILT, WALK_HANDED_IN, WITNESS, CALL_KINDS };
+/* LOCATE is with c, LOCATE_CODE without */
+enum call_kind { BUILD, WALK_BUILT, WALK_HANDED_IN, WITNESS, SIZE, LOCATE, LOCATE_CODE, CALL_KINDS };
 
 /* the subjects of features; each has 64 values */
 enum feature {
     F_NUMBER, F_CASE = F_NUMBER + CALL_KINDS, F_TABLES, F_GROWN, F_LINES, F_FLAGS, F_PAIRS, F_ENTRIES, F_TAGS, F_SELECTED, F_AGREEING,
-    F_UNSTORED, F_ARGUMENT, F_SIZE, FEATURES
+    F_UNSTORED, F_ARGUMENT, F_SIZE, F_FAULT, FEATURES
 };
 
 /* an input has this feature */

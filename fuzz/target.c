@@ -1,8 +1,9 @@
 /* The archive through include/podrulka.h, handed what input.c reads out of any bytes, and what must hold of its answers.
  *
- * One input is: two builds (one with room enough), walks of the built index for up to four calls, walks of an edited index, and the
- * witness of each call; every call is made again, with result arrays of other lengths. What is checked is said at each check; the
- * expected numbers, keys and agreeing clauses are plain.c's. A check that does not hold aborts. */
+ * One input is: what refuses the code, with c and without; two builds (one with room enough) and the size; walks of the built index for up to
+ * four calls, walks of an edited index, and the witness of each call; every call is made again, with result arrays of other lengths. What is
+ * checked is said at each check; the expected numbers, places of faults, keys and agreeing clauses are plain.c's. A check that does not hold
+ * aborts. */
 #include "fence.h"
 #include "input.h"
 #include "tally.h"
@@ -61,15 +62,21 @@ static void take_result(size_t len) {
     VALGRIND_MAKE_MEM_UNDEFINED(result_at, len * sizeof *result_at);
 }
 
-/* The number is the first place; a refusal has zeros in the others; places that the call does not have are as they were. */
-static struct answer read_result(uint32_t number, size_t len, size_t places) {
+/* Places that the call does not have are as they were. */
+static struct answer read_places(uint32_t number, size_t len, size_t places) {
     struct answer a = { number, len < places ? len : places, { 0 } };
     MUST(!VALGRIND_CHECK_MEM_IS_DEFINED(result_at, a.len * sizeof *result_at), "a result place not written");
     VALGRIND_MAKE_MEM_DEFINED(result_at, len * sizeof *result_at);
     for (size_t i = 0; i < a.len; i++) a.at[i] = result_at[i];
+    for (size_t i = a.len; i < len; i++) MUST(result_at[i] == painted(i), "a result place too many written");
+    return a;
+}
+
+/* The number is the first place; a refusal has zeros in the others. */
+static struct answer read_result(uint32_t number, size_t len, size_t places) {
+    struct answer a = read_places(number, len, places);
     if (a.len > 0) MUST(a.at[0] == number, "the number returned is not the result's");
     for (size_t i = 1; number && i < a.len; i++) MUST(a.at[i] == 0, "a refusal with a result");
-    for (size_t i = a.len; i < len; i++) MUST(result_at[i] == painted(i), "a result place too many written");
     return a;
 }
 
@@ -291,6 +298,42 @@ static void witness(void) {
     }
 }
 
+/* What refuses is reported with its place, with c or without (c 0), and the call itself is never refused. */
+static void locate(uint64_t c) {
+    struct fault f = fault_of(&p, c);
+    uint64_t expected[PODRULKA_LOCATED_PLACES] = { f.number, f.clause, f.record };
+    MUST(f.number == (c ? build_number(&p, c) : checked), "plain.c's own numbers");
+    for (int again = 0; again < 2; again++) {
+        size_t places = again ? in.head[AT_RESULT] & 15 : PODRULKA_LOCATED_PLACES + 1;
+        take_result(places);
+        uint32_t returned = podrulka_locate(p.code, p.code_len, p.starts, p.starts_len, p.arity, p.mask, p.flags, c, result_at, places);
+        struct answer a = read_places(returned, places, PODRULKA_LOCATED_PLACES);
+        count_call(c ? LOCATE : LOCATE_CODE, f.number);
+        inputs_unchanged();
+        MUST(returned == 0, "what reports a fault is refused");
+        for (size_t i = 0; i < a.len; i++) MUST(a.at[i] == expected[i], i ? "the place of a fault" : "the number of a fault");
+    }
+    if (f.number >= PODRULKA_BODY) seen(F_FAULT, (f.number - 5) * 16u + (f.clause < 3 ? f.clause : 3) * 4 + (f.record - p.starts[f.clause]) % 4);
+}
+
+/* The size is the count of the build with room enough; where no buffer has room for it, it is plain.c's. The number is the builder's,
+ * without 9. */
+static void size_of_index(size_t need) {
+    uint32_t expected = build_number(&p, in.chosen);
+    size_t count = expected ? 0 : need ? need : built_count(&p, (uint32_t)in.chosen);
+    MUST(expected || need || count > PODRULKA_MAX_INDEX, "a build refused with 9 that a buffer has room for");
+    for (int again = 0; again < 2; again++) {
+        size_t places = again ? in.head[AT_RESULT] & 15 : PODRULKA_SIZED_PLACES + 1;
+        take_result(places);
+        uint32_t number = podrulka_size(p.code, p.code_len, p.starts, p.starts_len, p.arity, p.mask, p.flags, in.chosen, result_at, places);
+        struct answer a = read_result(number, places, PODRULKA_SIZED_PLACES);
+        count_call(SIZE, number);
+        inputs_unchanged();
+        MUST(number == expected, "the size's number");
+        if (a.len == PODRULKA_SIZED_PLACES) MUST(a.at[PODRULKA_SIZED_COUNT] == count, "the size");
+    }
+}
+
 /* A build with room enough: the expected number, and a well-formed index. Gives back its records, 0 if it is refused. */
 static size_t probe(void) {
     uint32_t expected = build_number(&p, in.chosen);
@@ -370,8 +413,10 @@ int LLVMFuzzerTestOneInput(const uint8_t *data, size_t size) {
     count_execution();
     take_apart(data, size, &in);
     take_program();
+    locate(in.chosen), locate(0);
     for (size_t k = 0; k < in.calls_len; k++) take_call(k), witness();
     size_t need = probe();
+    size_of_index(need);
     bool built = build_in_room(need);
     walk_edited(built ? walk_built(need) : 0, need);
     fence_drop();
