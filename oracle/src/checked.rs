@@ -44,7 +44,24 @@ fn refused<const N: usize>(what: &str, result: [u64; N], number: u32, tally: &mu
     Ok(())
 }
 
-/// Runs the builder; the answer is the restatement's, found equal.
+/// The size of the index, whatever the room, and what refuses, with c and without, beside the restatement's.
+fn size_and_fault(p: &Program, code: &[u8], whole: &Result<Vec<u8>, u32>, tally: &mut Tally) -> Result<(), Difference> {
+    let sized = numbers::size(code, &p.starts, p.arity, p.mask, p.flags, p.c);
+    match whole {
+        Ok(index) => same("size", sized, [0, index.len() as u64 / 16])?,
+        Err(number) => same("size", sized, [u64::from(*number), 0])?,
+    }
+    let with_c = (p.c != 0).then(|| (p.c, whole.as_ref().err().copied())); // the archive's 0 is no c
+    for (c, number) in with_c.into_iter().chain([(0, restated::check_code(p).err())]) {
+        let located = numbers::locate(code, &p.starts, p.arity, p.mask, p.flags, c);
+        same("what refuses", located, restated::fault(p, number.unwrap_or(0)))?;
+        tally.places += u64::from(located[0] >= 5);
+    }
+    tally.sizes += u64::from(whole.is_ok());
+    Ok(())
+}
+
+/// Runs the builder, size and locate; the answer is the restatement's, found equal.
 pub fn build(p: &Program, index: &mut [u8], tally: &mut Tally) -> Result<Result<Built, u32>, Difference> {
     let before = index.to_vec();
     let shift = index.len() + p.starts.len();
@@ -52,7 +69,9 @@ pub fn build(p: &Program, index: &mut [u8], tally: &mut Tally) -> Result<Result<
     let result = numbers::build(&code, &p.starts, p.arity, p.mask, p.flags, p.c, &mut lent);
     index.copy_from_slice(&lent);
     same("bytes around the index", lent.alone(), true)?;
-    let expected = restated::build(p, index.len());
+    let whole = restated::whole_index(p);
+    size_and_fault(p, &code, &whole, tally)?;
+    let expected = whole.and_then(|whole| restated::build(p, whole, index.len()));
     match &expected {
         Err(number) => {
             refused("build", result, *number, tally)?;
@@ -67,7 +86,7 @@ pub fn build(p: &Program, index: &mut [u8], tally: &mut Tally) -> Result<Result<
     }
     let typed = podrulka::Built::from_numbers(result).map(|b| (b.count, u64::from(b.variable_offset)));
     let meant = expected.as_ref().map(|b| (b.index.len() / 16, b.variable));
-    same("build by the wrapper", typed, meant.map_err(|&number| Refusal(number)))?;
+    same("build by the wrapper", typed, meant.map_err(|&number| Refusal::new(number)))?;
     Ok(expected)
 }
 
@@ -119,7 +138,7 @@ fn walk_numbers(w: &Walked) -> [u64; 7] {
 
 /// The restatement's answer in the wrapper's type.
 fn typed(expected: &Result<Walked, u32>) -> Result<podrulka::Walked, Refusal> {
-    let w = expected.as_ref().map_err(|&number| Refusal(number))?;
+    let w = expected.as_ref().map_err(|&number| Refusal::new(number))?;
     let case = match w.case {
         restated::Case::Fail => podrulka::Case::Fail,
         restated::Case::External => podrulka::Case::External,

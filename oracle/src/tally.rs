@@ -9,6 +9,9 @@ pub struct Tally {
     pub random: u64,
     pub builds: u64,
     pub builds_refused: u64,
+    /// Sizes of indexes, and places of faults, with c and without.
+    pub sizes: u64,
+    pub places: u64,
     /// Accepted walks by case, 1 to 4.
     pub cases: [u64; 5],
     pub walks_refused: u64,
@@ -61,6 +64,7 @@ impl fmt::Display for Tally {
         let parts = parts.map(|(name, number)| format!("{name} {}", n(number))).join(", ");
         writeln!(f, "inputs      {} ({parts})", n(self.inputs()))?;
         writeln!(f, "builds      {} accepted, {} refused", n(self.builds), n(self.builds_refused))?;
+        writeln!(f, "sizes       {}; places of faults {}", n(self.sizes), n(self.places))?;
         writeln!(f, "walks       {} accepted, {} refused", n(self.walks()), n(self.walks_refused))?;
         let of = |case: Case| n(self.cases[case as usize]);
         writeln!(

@@ -3,7 +3,7 @@ use crate::checked::{self, Difference, same, same_bytes};
 use crate::restated::{Case, Program, Walked};
 use crate::tally::Tally;
 use original::{Answer, Predicate, Settings};
-use podrulka::MAX_INDEX;
+use podrulka::{MAX_INDEX, numbers};
 
 /// The byte of a buffer that no call has written.
 pub const FILL: u8 = 0xa5;
@@ -26,15 +26,22 @@ pub struct Fresh {
     pub rust: Predicate,
 }
 
-/// Builds here and there in a buffer of so many bytes; a refusal's number if it is refused here.
+/// Builds here and there in a buffer of so many bytes; a refusal's number if it is refused here. The size is the Rust's
+/// also where the buffer is too small.
 pub fn build(p: &Program, bytes: usize, tally: &mut Tally) -> Result<Result<Fresh, u32>, Difference> {
     let mut buffer = vec![FILL; bytes];
     let built = match checked::build(p, &mut buffer, tally)? {
-        Err(number) => return Ok(Err(number)),
-        Ok(built) => built,
+        Err(number) if number != 9 => return Ok(Err(number)),
+        built => built,
     };
     let (rust, variable) = Predicate::build(&p.code, &p.starts, &settings(p), p.c as usize);
     let index = rust.index();
+    let sized = numbers::size(&p.code, &p.starts, p.arity, p.mask, p.flags, p.c);
+    same("the Rust's size", sized, [0, index.len() as u64 / 16])?;
+    let built = match built {
+        Err(number) => return Ok(Err(number)),
+        Ok(built) => built,
+    };
     same("the Rust's variable offset", built.variable, variable as u64)?;
     same_bytes("the Rust's index", &built.index, &index)?;
     tally.records += index.len() as u64 / 16;

@@ -1,4 +1,4 @@
-//! Sections 1 and 2, the numbers 1, 3 to 7 and 10, and agreement of clause and call.
+//! Sections 1 and 2, the numbers 1, 3 to 7 and 10, the places of 5 to 8, and agreement of clause and call.
 use super::Program;
 use podrulka::Record;
 
@@ -87,6 +87,29 @@ fn clause_keys(clause: &[Record], arity: u32) -> Result<Vec<Option<Key>>, u32> {
         }
     }
     Ok(keys)
+}
+
+/// What refuses, as locate reports it, given its number: with 5 to 8 the first clause that is refused and its record that is
+/// first at fault. That of 6 and 7 is the last of the shortest beginning of the clause that a body record behind it does
+/// not mend.
+pub fn fault(program: &Program, number: u32) -> [u64; 3] {
+    let (records, starts) = (Record::all(&program.code), &program.starts);
+    let fails = |clause: &[Record]| clause_keys(&[clause, &[Record::BODY]].concat(), program.arity).is_err();
+    for i in 0..if number < 5 { 0 } else { starts.len() } {
+        let start = starts[i] as usize;
+        let end = starts.get(i + 1).map_or(records.len(), |&next| next as usize);
+        let clause = &records[start..end];
+        let at = match clause_keys(clause, program.arity) {
+            Err(5) => clause.len() - 1,
+            Err(_) => (0..clause.len()).find(|&at| fails(&clause[..=at])).expect("a record at fault"),
+            Ok(keys) if number == 8 && keys[program.c as usize - 1].is_none() => {
+                clause.iter().position(|r| class_of(r) == Class::Body).expect("a body record")
+            }
+            Ok(_) => continue,
+        };
+        return [number.into(), i as u64, (start + at) as u64];
+    }
+    [number.into(), 0, 0]
 }
 
 /// Number 6.

@@ -6,7 +6,7 @@ mod expansion;
 pub mod index;
 mod walk;
 
-pub use checks::{Key, Read, agreeing, call_keys, check_code, read_code};
+pub use checks::{Key, Read, agreeing, call_keys, check_code, fault, read_code};
 pub use walk::{Case, Walked, walk};
 
 use expansion::{Tagged, later_tables, static_tags, switch_over};
@@ -54,8 +54,8 @@ pub struct Built {
     pub index: Vec<u8>,
 }
 
-/// Section 3, with the builder's refusals 1 to 9.
-pub fn build(program: &Program, index_bytes: usize) -> Result<Built, u32> {
+/// Section 3's records, whatever the room, with refusals 1 to 8.
+pub fn whole_index(program: &Program) -> Result<Vec<u8>, u32> {
     if !(1..=32).contains(&program.arity) {
         return Err(1);
     }
@@ -67,7 +67,11 @@ pub fn build(program: &Program, index_bytes: usize) -> Result<Built, u32> {
     if read.offsets.iter().any(|&o| read.key(o, c).is_none()) {
         return Err(8);
     }
-    let index = written(&fresh(program, &read, c), program.dynamic());
+    Ok(written(&fresh(program, &read, c), program.dynamic()))
+}
+
+/// The build that writes these records, with refusal 9.
+pub fn build(program: &Program, index: Vec<u8>, index_bytes: usize) -> Result<Built, u32> {
     if index.len() / 16 > capacity(index_bytes) {
         return Err(9);
     }
