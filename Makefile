@@ -61,7 +61,7 @@ $(DIST)/.files: $(FILES:%=packaging/%.in) include/podrulka.h Makefile
 	@$(call files,$(DIST),$(DIST)/lib,$(DIST)/include,)
 	@touch $@
 
-EXAMPLES = show
+EXAMPLES = show groups
 example: all
 	@for e in $(EXAMPLES); do \
 	    $(C11) examples/$$e.c $(ARCHIVE) -o build/$$e && ./build/$$e > build/$$e.printed && diff build/$$e.printed examples/$$e.out && cat examples/$$e.out || exit 1; \
@@ -92,7 +92,8 @@ install: all
 uninstall:
 	rm -f $(addprefix $(DESTDIR)$(LIBDIR)/,libpodrulka.a libpodrulka.so libpodrulka.so.$(MINOR) libpodrulka.so.$(VERSION)) $(DESTDIR)$(INCLUDEDIR)/podrulka.h
 	rm -f $(addprefix $(DESTDIR)$(LIBDIR)/pkgconfig/,$(filter %.pc,$(FILES)))
-	rm -rf $(DESTDIR)$(LIBDIR)/cmake/podrulka $(DESTDIR)$(DOCDIR)
+	rm -f $(addprefix $(DESTDIR)$(LIBDIR)/cmake/podrulka/,$(filter %.cmake,$(FILES))) $(addprefix $(DESTDIR)$(DOCDIR)/,$(notdir $(DOCS)))
+	rmdir --ignore-fail-on-non-empty $(DESTDIR)$(LIBDIR)/cmake/podrulka $(DESTDIR)$(DOCDIR)
 
 check-install: all
 	tests/install
