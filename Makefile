@@ -12,7 +12,7 @@ LIBDIR = $(PREFIX)/lib
 INCLUDEDIR = $(PREFIX)/include
 DOCDIR = $(PREFIX)/share/doc/podrulka
 DESTDIR =
-RT = rt
+RT ?= rt
 
 VERSION := $(shell sed -n 's/^.define PODRULKA_VERSION "\(.*\)"/\1/p' include/podrulka.h)
 MINOR := $(basename $(VERSION))
@@ -96,7 +96,7 @@ uninstall:
 	rmdir --ignore-fail-on-non-empty $(DESTDIR)$(LIBDIR)/cmake/podrulka $(DESTDIR)$(DOCDIR)
 
 check-install: all
-	tests/install
+	@RT=$(RT) CC="$(CC)" tests/install
 
 clean:
 	rm -rf build

@@ -3,7 +3,7 @@
 #include <inttypes.h>
 #include <stdio.h>
 
-enum { ARITY = 2, ROOM = 64, GET_LIST = 17, GET_CONSTANT = 18, BODY = 64 };
+enum { ARITY = 2, ROOM = 64 };
 
 static const char *const cases[] = { "refused", "fail", "external", "sequence", "variadic" };
 
@@ -24,16 +24,16 @@ int main(void) {
     uint8_t code[9 * PODRULKA_RECORD];
     const uint32_t starts[] = { 0, 3, 6 };
     for (int i = 0; i < 3; i++) {
-        put(code + 16 * (3 * i), GET_CONSTANT, 0, PODRULKA_ATOM, 1, i == 1 ? 8 : 7);
-        if (i == 1) put(code + 16 * (3 * i + 1), GET_LIST, 0, 0, 2, 0);
-        else put(code + 16 * (3 * i + 1), GET_CONSTANT, 0, PODRULKA_ATOM, 2, i == 0 ? 1 : 2);
-        put(code + 16 * (3 * i + 2), BODY, 0, 0, 0, 0);
+        put(code + 16 * (3 * i), PODRULKA_GET_CONSTANT, 0, PODRULKA_ATOM, 1, i == 1 ? 8 : 7);
+        if (i == 1) put(code + 16 * (3 * i + 1), PODRULKA_GET_LIST, 0, 0, 2, 0);
+        else put(code + 16 * (3 * i + 1), PODRULKA_GET_CONSTANT, 0, PODRULKA_ATOM, 2, i == 0 ? 1 : 2);
+        put(code + 16 * (3 * i + 2), PODRULKA_BODY_RECORD, 0, 0, 0, 0);
     }
 
     uint8_t index[ROOM * PODRULKA_RECORD];
     uint64_t built[PODRULKA_BUILT_PLACES];
     if (podrulka_build(code, sizeof code, starts, 3, ARITY, 0, 0, 1, index, sizeof index, built, PODRULKA_BUILT_PLACES)) {
-        printf("build refused with %" PRIu64 "\n", built[PODRULKA_BUILT_NUMBER]);
+        printf("build refused: %s\n", podrulka_message((uint32_t)built[PODRULKA_BUILT_NUMBER]));
         return 1;
     }
     size_t count = built[PODRULKA_BUILT_COUNT];

@@ -19,7 +19,8 @@
  * after it if the call is refused. The enums below name the places.
  *
  * Records. Code, calls and index are records of 16 bytes, numbers little-endian: kind (1 byte), sub (1), half (2), word (4),
- * long (8). What follows is the short form; docs/FORMAT.md says it at length, with examples.
+ * long (8). What follows is the short form; docs/FORMAT.md says it at length, with examples
+ * (installed in share/doc/podrulka).
  *
  * Code. kind is the opcode. A clause begins at each of starts (a number of records) and ends at the next one or at the
  * code's end; its offset is its start plus 1. Reading a clause stops at its first body record.

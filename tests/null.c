@@ -1,4 +1,6 @@
 /* NULL with length 0: each function, with every choice of its buffers empty, answers as it does with another pointer of length 0.
+ * The compiler's own module says of these pointers only that they are defined, neither non-null nor readable, and its optimised form compares
+ * no pointer; so nothing depends on them where the length is 0. This test stands for that in every compiled library.
  * usage: null    prints how many calls were compared */
 #include <podrulka.h>
 #include <inttypes.h>
