@@ -76,7 +76,7 @@ check: example
 	else echo "$(CXX) is missing: the header as C++17 was left out"; fi
 	@$(C11) tests/null.c $(ARCHIVE) -o build/null && ./build/null
 	@$(C11) tests/null.c $(SHARED) -Wl,-rpath,'$$ORIGIN/podrulka/lib' -o build/null && ./build/null > /dev/null
-	@tests/exports $(ARCHIVE) $(SHARED)
+	@tests/exports $(ARCHIVE) $(SHARED) include/podrulka.h
 	@if command -v cargo > /dev/null; then cd rust && cargo test --offline --quiet; else echo "cargo is missing: the wrapper's tests in rust/ were left out"; fi
 
 install: all

@@ -53,9 +53,9 @@ static void add(uint8_t kind, uint8_t half, uint8_t word, uint8_t bits) {
     code_len += PODRULKA_RECORD;
 }
 
-/* Whether the rule that begins at start has a key at argument c, by the code alone: built without room it is refused with 9, without a key with 8. */
+/* Whether the rule that begins at start has a key at argument c, by the code alone: the rule by itself is refused with 8 if not. */
 static int has_key(const uint32_t *start, uint64_t c) {
-    return podrulka_build(code, code_len, start, 1, ARITY, 0, 0, c, NULL, 0, NULL, 0) == PODRULKA_ROOM;
+    return podrulka_size(code, code_len, start, 1, ARITY, 0, 0, c, NULL, 0) == PODRULKA_OK;
 }
 
 /* The offset of a rule as its number in the rulebook. */

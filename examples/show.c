@@ -1,9 +1,11 @@
-/* The worked show: three clauses of arity 2, their index, and three calls.  usage: show */
+/* The worked show: three clauses of arity 2, how large their index is, the index, three calls, and a fault that is located.  usage: show */
 #include <podrulka.h>
 #include <inttypes.h>
 #include <stdio.h>
+#include <stdlib.h>
+#include <string.h>
 
-enum { ARITY = 2, ROOM = 64 };
+enum { ARITY = 2, MORE = 16 };
 
 static const char *const cases[] = { "refused", "fail", "external", "sequence", "variadic" };
 
@@ -30,9 +32,18 @@ int main(void) {
         put(code + 16 * (3 * i + 2), PODRULKA_BODY_RECORD, 0, 0, 0, 0);
     }
 
-    uint8_t index[ROOM * PODRULKA_RECORD];
+    uint64_t sized[PODRULKA_SIZED_PLACES];
+    if (podrulka_size(code, sizeof code, starts, 3, ARITY, 0, 0, 1, sized, PODRULKA_SIZED_PLACES)) {
+        printf("size refused: %s\n", podrulka_message((uint32_t)sized[PODRULKA_SIZED_NUMBER]));
+        return 1;
+    }
+    printf("the index has %" PRIu64 " records\n", sized[PODRULKA_SIZED_COUNT]);
+    /* what the builder needs, and some records for the tables that walks expand; without them the answers are the same */
+    size_t index_len = ((size_t)sized[PODRULKA_SIZED_COUNT] + MORE) * PODRULKA_RECORD;
+    uint8_t *index = malloc(index_len);
+    if (!index) return 1;
     uint64_t built[PODRULKA_BUILT_PLACES];
-    if (podrulka_build(code, sizeof code, starts, 3, ARITY, 0, 0, 1, index, sizeof index, built, PODRULKA_BUILT_PLACES)) {
+    if (podrulka_build(code, sizeof code, starts, 3, ARITY, 0, 0, 1, index, index_len, built, PODRULKA_BUILT_PLACES)) {
         printf("build refused: %s\n", podrulka_message((uint32_t)built[PODRULKA_BUILT_NUMBER]));
         return 1;
     }
@@ -46,7 +57,7 @@ int main(void) {
     for (int i = 0; i < 3; i++) {
         uint32_t out[3] = { 0 };
         uint64_t w[PODRULKA_WALKED_PLACES], seen[PODRULKA_WITNESSED_PLACES];
-        podrulka_walk(code, sizeof code, starts, 3, ARITY, 0, 0, calls[i], sizeof calls[i], index, sizeof index, count, out, 3, w, PODRULKA_WALKED_PLACES);
+        podrulka_walk(code, sizeof code, starts, 3, ARITY, 0, 0, calls[i], sizeof calls[i], index, index_len, count, out, 3, w, PODRULKA_WALKED_PLACES);
         podrulka_witness(code, sizeof code, starts, 3, ARITY, 0, 0, calls[i], sizeof calls[i], seen, PODRULKA_WITNESSED_PLACES);
         if (w[PODRULKA_WALKED_NUMBER] == PODRULKA_OK) count = w[PODRULKA_WALKED_RECORDS];
         printf("call %d: %s, %" PRIu64 " tables, %zu records, witness %" PRIu64 ", clauses", i + 1, cases[w[PODRULKA_WALKED_CASE]],
@@ -54,5 +65,15 @@ int main(void) {
         for (size_t k = 0; k < w[PODRULKA_WALKED_COUNT]; k++) printf(" %" PRIu32, out[k]);
         printf("\n");
     }
+    free(index);
+
+    /* the second clause's list in register 1, where its first key is too */
+    uint8_t wrong[sizeof code];
+    memcpy(wrong, code, sizeof code);
+    put(wrong + 16 * 4, PODRULKA_GET_LIST, 0, 0, 1, 0);
+    uint64_t at[PODRULKA_LOCATED_PLACES];
+    podrulka_locate(wrong, sizeof wrong, starts, 3, ARITY, 0, 0, 1, at, PODRULKA_LOCATED_PLACES);
+    printf("a wrong register: %" PRIu64 ", clause %" PRIu64 ", record %" PRIu64 ": %s\n", at[PODRULKA_LOCATED_NUMBER], at[PODRULKA_LOCATED_CLAUSE],
+           at[PODRULKA_LOCATED_RECORD], podrulka_message((uint32_t)at[PODRULKA_LOCATED_NUMBER]));
     return 0;
 }

@@ -45,6 +45,8 @@ static struct left run(char f, unsigned empty, int null) {
     switch (f) {
     case 'b': l.number = podrulka_build(co, co_len, st, st_len, ARITY, 0, 0, 1, in, in_len, re, re_len); break;
     case 'w': l.number = podrulka_walk(co, co_len, st, st_len, ARITY, 0, 0, ca, ca_len, in, in_len, count, out, out_len, re, re_len); break;
+    case 's': l.number = podrulka_size(co, co_len, st, st_len, ARITY, 0, 0, 1, re, re_len); break;
+    case 'l': l.number = podrulka_locate(co, co_len, st, st_len, ARITY, 0, 0, 1, re, re_len); break;
     default: l.number = podrulka_witness(co, co_len, st, st_len, ARITY, 0, 0, ca, ca_len, re, re_len);
     }
     return l;
@@ -52,6 +54,7 @@ static struct left run(char f, unsigned empty, int null) {
 
 /* the number that the function gives with the buffers of the set empty */
 static uint32_t expected(char f, unsigned empty) {
+    if (f == 'l') return PODRULKA_OK; /* it reports, in result */
     if (empty & (CODE | STARTS)) return PODRULKA_STARTS;
     if (empty & CALL) return PODRULKA_CALL;
     if (empty & OUT) return PODRULKA_OUT;
@@ -62,6 +65,8 @@ static uint32_t expected(char f, unsigned empty) {
 int main(void) {
     static const struct { char f; unsigned buffers; const char *name; } functions[] = {
         { 'b', CODE | STARTS | RESULT | INDEX, "podrulka_build" },
+        { 's', CODE | STARTS | RESULT, "podrulka_size" },
+        { 'l', CODE | STARTS | RESULT, "podrulka_locate" },
         { 'w', CODE | STARTS | RESULT | INDEX | CALL | OUT, "podrulka_walk" },
         { 'v', CODE | STARTS | RESULT | CALL, "podrulka_witness" },
     };

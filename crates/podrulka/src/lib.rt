@@ -88,7 +88,7 @@ fn lay_sized(a: SizeAnswer, result: &mut [u64]) -> u32
             0
         }
         SizeAnswer::Refused(number) => {
-            let values = [number as u64, 0];
+            let values = [number as u64, 0u64];
             lay(&values, result);
             number
         }
