@@ -141,7 +141,7 @@ static inline const char *podrulka_message(uint32_t number) {
     case PODRULKA_ROOM: return "the built index has more records than the buffer has room for";
     case PODRULKA_CALL: return "the call is not one well-made record for each argument";
     case PODRULKA_OUT: return "out has fewer places than there are clauses";
-    case PODRULKA_INDEX: return "the index is not well formed";
+    case PODRULKA_INDEX: return "the record count is above the capacity, or the records are not a well-formed index";
     default: return "no such number";
     }
 }
