@@ -12,9 +12,11 @@ extern crate hashbrown;
 #[path = "../../oracle/original/src/macros.rs"]
 mod macros;
 #[allow(dead_code, unused)]
+#[rustfmt::skip]
 #[path = "../../../shared/docs/src/indexing.rs"]
 mod indexing;
 #[allow(dead_code, unused)]
+#[rustfmt::skip]
 #[path = "../../../shared/docs/src/indexing_iter.rs"]
 mod indexing_iter;
 #[allow(dead_code, unused)]

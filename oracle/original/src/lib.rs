@@ -6,9 +6,11 @@
 #[macro_use]
 mod macros;
 
-// Original text; machine::indexing_scan is the third file, and `instructions` takes over the index's data types.
+// Original text, which no formatter may touch; machine::indexing_scan is the third file, and `instructions` takes over the index's data types.
+#[rustfmt::skip]
 #[path = "../../../../shared/docs/src/indexing.rs"]
 mod indexing;
+#[rustfmt::skip]
 #[path = "../../../../shared/docs/src/indexing_iter.rs"]
 mod indexing_iter;
 

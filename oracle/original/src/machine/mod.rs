@@ -4,6 +4,7 @@ use crate::types::HeapCellValue;
 use std::cell::Cell;
 use std::ops::Index;
 
+#[rustfmt::skip]
 #[path = "../../../../../shared/docs/src/indexing_scan.rs"]
 pub mod indexing_scan;
 
