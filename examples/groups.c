@@ -105,11 +105,11 @@ int main(void) {
     }
 
     /* all rules together: the code is in order, but it has no index on argument 1 */
-    static const uint8_t unbound[ARITY * PODRULKA_RECORD];
-    uint32_t refused = podrulka_witness(code, code_len, starts, RULES, ARITY, 0, 0, unbound, sizeof unbound, NULL, 0);
-    printf("all rules, checked: %s\n", podrulka_message(refused));
-    if (refused) return 1;
-    refused = podrulka_build(code, code_len, starts, RULES, ARITY, 0, 0, 1, groups[0].index, sizeof groups[0].index, NULL, 0);
+    uint64_t fault[PODRULKA_LOCATED_PLACES];
+    podrulka_locate(code, code_len, starts, RULES, ARITY, 0, 0, 0, fault, PODRULKA_LOCATED_PLACES);
+    printf("all rules, checked: %s\n", podrulka_message((uint32_t)fault[PODRULKA_LOCATED_NUMBER]));
+    if (fault[PODRULKA_LOCATED_NUMBER]) return 1;
+    uint32_t refused = podrulka_build(code, code_len, starts, RULES, ARITY, 0, 0, 1, groups[0].index, sizeof groups[0].index, NULL, 0);
     printf("all rules, built on argument 1: refused with %" PRIu32 ", %s\n", refused, podrulka_message(refused));
 
     /* each rule to the group of its first key */
