@@ -1,8 +1,10 @@
 """Instruction counts by callgrind (they repeat to the digit, whatever else the machine does): per call or build, ours and the Rust's,
 and where ours go.  usage: python3 bench/counts.py   (after bench/run, from the repository's root; needs valgrind)"""
 import collections
+import os
 import re
 import subprocess
+import sys
 
 PROGRAM, OUT = "bench/target/release/bench", "bench/out/callgrind.out"
 ARITY, CALLS, BUILDS = 4, 16, 8
@@ -11,6 +13,7 @@ KINDS = ("build", "first", "later", "bound")
 # the archive's functions after inlining: what is not listed stands in podrulka_build or podrulka_walk itself
 PARTS = {
     "indexing_iter::checks::check_clauses_of": "code",
+    "indexing_iter::checks::check_clause": "code",
     "podrulka_walk": "index",
     "well_formed::formed_with": "index",
     "memset": "clearing",
@@ -99,6 +102,9 @@ def builds():
                     print(f"| {what} | {keys} | `{name}` | {100 * cost / whole:.0f} % |", flush=True)
 
 
+if not os.path.exists(PROGRAM):
+    sys.exit(f"bench/counts.py: {PROGRAM} is missing: bench/run makes it")
+os.makedirs(os.path.dirname(OUT), exist_ok=True)
 shares()
 builds()
 totals()

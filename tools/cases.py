@@ -2,7 +2,7 @@
 
 A case is settings, starts, code records and calls. Code that is accepted by document 01: registers rise, every clause has a key at the chosen
 argument and a body record. The oracle is ../shared/oracle, built by build_oracle() in a folder of its own."""
-import os, shutil, struct, subprocess, tempfile
+import os, shutil, struct, subprocess, sys, tempfile
 
 HERE = os.path.dirname(os.path.abspath(__file__))
 SHARED = os.path.join(HERE, '..', '..', 'shared')
@@ -78,7 +78,10 @@ def random_case(rnd, calls=0, most_clauses=8):
 
 
 def build_oracle():
-    """Builds ../shared/oracle in a temporary folder beside a link to its sources, and gives the program's path."""
+    """Builds ../shared/oracle in a temporary folder beside a link to its sources, and gives the program's path. Ends the program where it is missing."""
+    if not os.path.isdir(os.path.join(SHARED, 'oracle')):
+        print('%s: ../shared/oracle is missing: the original Rust, which this compares with' % os.path.relpath(sys.argv[0]), file=sys.stderr)
+        sys.exit(2)
     top = os.path.join(tempfile.gettempdir(), 'podrulka-oracle')
     exe = os.path.join(top, 'oracle', 'target', 'release', 'oracle')
     if not os.path.exists(exe):

@@ -6,7 +6,7 @@ usage: python3 tools/differential.py N SEED [broken]   (needs target/bin/replay_
 With `broken` some bytes of each input are changed; the number of a refused one is that of the model in replay_lines.py.
 """
 import os, random, subprocess, sys
-from cases import SHARED, build_oracle, lines_input, oracle_listing, random_case, rec
+from cases import build_oracle, lines_input, oracle_listing, random_case, rec
 from replay_lines import framed, number, parts
 
 PROGRAM = os.path.join(os.path.dirname(os.path.abspath(__file__)), '..', 'target', 'bin', 'replay_lines')
@@ -66,7 +66,4 @@ def main(n, seed, make):
 
 
 if __name__ == '__main__':
-    if not os.path.isdir(os.path.join(SHARED, 'oracle')):
-        print('tools/differential.py: ../shared/oracle is missing: the original Rust, which this compares with', file=sys.stderr)
-        sys.exit(2)
     sys.exit(main(int(sys.argv[1]), int(sys.argv[2]), broken if sys.argv[3:] == ['broken'] else accepted))

@@ -8,7 +8,7 @@ Plain: room for every expansion, everything from the oracle. limited: capacities
 and from the oracle what the oracle can say. broken: damaged inputs, calls and handed-in indexes, from the model.
 With `model` no Rattle program runs: the oracle against the model."""
 import collections, multiprocessing, os, random, subprocess, sys, time
-from cases import SHARED, build_oracle, rec, walks_input
+from cases import build_oracle, rec, walks_input
 from model import MOST
 from random_walks import MAKERS
 from replay_lines import BODY, atom, case, framed, lst, settings
@@ -103,7 +103,4 @@ def limits():
 if __name__ == '__main__':
     words = sys.argv[1:]
     if words == ['limits']: sys.exit(limits())
-    if not os.path.isdir(os.path.join(SHARED, 'oracle')):
-        print('tools/differential_walks.py: ../shared/oracle is missing: the original Rust, which this compares with (limits does without)', file=sys.stderr)
-        sys.exit(2)
     sys.exit(main(int(words[0]), int(words[1]), next((w for w in words[2:] if w in MAKERS), 'plenty'), 'model' not in words))
