@@ -3,7 +3,7 @@
 #                       files in build/podrulka
 #   make example        builds and runs the C examples and compares what they print
 #   make check          the examples, the header as C11 and C++17, NULL with length 0, what the shared library exports, the wrapper's tests
-#   make install        PREFIX=/usr/local DESTDIR=, and LIBDIR, INCLUDEDIR, DOCDIR where they are not below PREFIX as usual
+#   make install        installs what make has left: PREFIX=/usr/local DESTDIR=, and LIBDIR, INCLUDEDIR, DOCDIR where they are not below PREFIX as usual
 #   make uninstall      removes what make install puts there, with the same variables
 #   make check-install  installs to temporary folders, and builds and runs an example through pkg-config and CMake
 #   make clean          removes build; target, which has the proofs, stays
@@ -79,7 +79,9 @@ check: example
 	@tests/exports $(ARCHIVE) $(SHARED) include/podrulka.h
 	@if command -v cargo > /dev/null; then cd rust && cargo test --offline --quiet; else echo "cargo is missing: the wrapper's tests in rust/ were left out"; fi
 
-install: all
+# installs what `make` has left, so that root needs no rt; where nothing is there it is made first
+install:
+	@[ -f $(ARCHIVE) ] && [ -f $(SHARED) ] || $(MAKE) all
 	install -d $(DESTDIR)$(LIBDIR) $(DESTDIR)$(INCLUDEDIR) $(DESTDIR)$(DOCDIR)
 	install -m 644 $(ARCHIVE) $(DESTDIR)$(LIBDIR)/
 	install -m 755 $(SHARED) $(DESTDIR)$(LIBDIR)/
