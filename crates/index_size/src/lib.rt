@@ -1,4 +1,6 @@
 // The size of the index that the builder would write: how many records it takes, whatever the room.
+#![tactic(auto)]
+
 ghost use Rattle.std.specs.Prelude.{◌≡◌, List, ℕ, ◌+◌, ◌-◌, ◌*◌, ◌≤◌, length};
 ghost use Rattle.indexing_iter.specs.Classes.{class_of};
 ghost use Rattle.indexing_iter.specs.Checks.{check_build};
@@ -10,7 +12,7 @@ ghost use Rattle.index_size.specs.Answer.{sized_of};
 use indexing_iter::{Checked, Settings, checks};
 
 // What the size function answers: the index's record count, or a refusal's number.
-#[derive(Drop)]
+#[derive(Clone, Copy)]
 pub enum SizeAnswer {
     Needs(usize),
     Refused(u32),

@@ -18,7 +18,7 @@ ghost use Rattle.index_writer.specs.Chains.{bucket_at, leads_in};
 use indexing::key_buckets;
 
 // A key as two numbers: its sort and arity in one, and its bits.
-#[derive(Drop)]
+#[derive(Clone, Copy)]
 struct KeyNumbers {
     pub head: u32,
     pub bits: u64,

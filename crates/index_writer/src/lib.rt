@@ -1,4 +1,6 @@
 // The records of an expansion, written by the columns of a line's clauses: buckets, switch, tables, offsets, lines, and the room that they take.
+#![tactic(auto)]
+
 pub mod buckets;
 pub mod choices;
 pub mod columns;

@@ -11,7 +11,7 @@ use indexing_iter::Settings;
 
 // An on-demand table, and where it stands: for argument arg, its record at place at of count records, in line number line of lines, in an
 // index that may grow to capacity records.
-#[derive(Drop)]
+#[derive(Clone, Copy)]
 pub struct OnDemand {
     pub arg: u32,
     pub at: usize,
@@ -22,7 +22,7 @@ pub struct OnDemand {
 }
 
 // What an expansion answers: the records and lines of the index after it, or that it does not fit.
-#[derive(Drop)]
+#[derive(Clone, Copy)]
 pub enum Expanded {
     Stored { count: usize, lines: u32 },
     NoRoom,

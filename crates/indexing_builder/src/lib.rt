@@ -1,5 +1,7 @@
 // The builder, number 9, and the expansion of an on-demand table on the buffer.
 // Port of scryer-prolog's compute_indices (indexing.rs) and indices_of_arg (indexing_scan.rs).
+#![tactic(auto)]
+
 pub mod expansion;
 
 ghost use Rattle.std.specs.Prelude.{◌≡◌, cond, ◌*◌, ◌≤◌, length};
@@ -16,7 +18,7 @@ use crate::expansion::OnDemand;
 use indexing_iter::{Checked, Settings, checks};
 
 // What the builder answers: the index's record count and the variable offset, or a refusal's number.
-#[derive(Drop)]
+#[derive(Clone, Copy)]
 pub enum BuildAnswer {
     Done { count: usize, variable: u32 },
     Refused(u32),

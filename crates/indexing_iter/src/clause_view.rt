@@ -8,7 +8,7 @@ ghost use Rattle.indexing_iter.specs.Keys.{key_in};
 
 use crate::OptArgIndexKey;
 
-#[derive(Drop)]
+#[derive(Clone, Copy)]
 pub struct ClauseView<'a> {
     pub code: &'a [u8],
     pub at: usize,

@@ -1,5 +1,7 @@
 // The key reader: opcode classes, the keys of a clause, and the checks of code and starts, numbers 1 to 8.
 // Port of scryer-prolog's indexing_iter.rs: extract_index_arg, collect_opt_arg_index_keys, IndexedClauseView.
+#![tactic(auto)]
+
 use records::Rec;
 
 pub mod checks;
@@ -15,7 +17,7 @@ ghost use Rattle.indexing_iter.specs.Rows.{head_by, head_of, same_bits, keys_of}
 ghost use Rattle.indexing_iter.specs.Checks.{check_code};
 
 // What indexing knows of one argument of a clause, or of a call.
-#[derive(Drop)]
+#[derive(Clone, Copy)]
 pub enum OptArgIndexKey {
     None,
     Literal(u16, u64),
@@ -24,7 +26,7 @@ pub enum OptArgIndexKey {
 }
 
 // What one code record says: a register together with its key, or that there is none.
-#[derive(Drop)]
+#[derive(Clone, Copy)]
 pub enum InstructionArg {
     ArgedHead(u32, OptArgIndexKey),
     ArglessHead,
@@ -33,7 +35,7 @@ pub enum InstructionArg {
 }
 
 // A check's answer: passed, or refused with a number of document 01's table.
-#[derive(Drop)]
+#[derive(Clone, Copy)]
 pub enum Checked {
     Passed,
     Refused(u32),
@@ -41,7 +43,7 @@ pub enum Checked {
 
 // What refuses code, and where: the checks' number, 0 where nothing does; the clause and the record of the code first at fault, both
 // counted from 0, and 0 where no record is at fault.
-#[derive(Drop)]
+#[derive(Clone, Copy)]
 pub struct Fault {
     pub number: u32,
     pub clause: usize,
@@ -49,7 +51,7 @@ pub struct Fault {
 }
 
 // The settings of a predicate, passed by value on each call.
-#[derive(Drop)]
+#[derive(Clone, Copy)]
 pub struct Settings {
     pub arity: u32,
     pub mask: u32,

@@ -10,7 +10,7 @@ use indexing_iter::OptArgIndexKey;
 use records::Rec;
 
 // Runs of records: the entries or dead clauses of one table, tables with theirs, the offsets of a line.
-#[derive(Drop)]
+#[derive(Clone, Copy)]
 pub enum Run {
     Items,
     Tables,
@@ -18,7 +18,7 @@ pub enum Run {
 }
 
 // What a switch chose: nothing, the only entry of the group, or the equal key among several; with the entry's pointer.
-#[derive(Drop)]
+#[derive(Clone, Copy)]
 pub enum Chosen {
     Nothing,
     Only(u32),

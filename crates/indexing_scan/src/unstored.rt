@@ -17,7 +17,7 @@ use indexing_iter::{OptArgIndexKey, Settings};
 
 // What is done at an argument. The first number is what was done at the table: 1 unbound, 2 dead, 4 the only entry of
 // the group, 5 the equal key. Single has the offset of an external pointer, Bucket the number of a line's clauses.
-#[derive(Drop)]
+#[derive(Clone, Copy)]
 pub enum Narrowed {
     NoTable,
     Passed(u8),
@@ -27,7 +27,7 @@ pub enum Narrowed {
 }
 
 // An answer: its case (1 Fail, 2 External, 3 Sequence), the number of its clauses and of the tables looked at.
-#[derive(Drop)]
+#[derive(Clone, Copy)]
 pub struct Finished {
     pub case: u32,
     pub count: usize,

@@ -13,7 +13,7 @@ ghost use Rattle.indexing_scan.specs.Witness.{Witnesses, first_of};
 use indexing_iter::{Checked, OptArgIndexKey, Settings};
 
 // Found has the offset, 0 if no clause agrees; Refused a number of document 01's table.
-#[derive(Drop)]
+#[derive(Clone, Copy)]
 pub enum Witnessed {
     Found(u32),
     Refused(u32),

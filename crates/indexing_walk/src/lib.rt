@@ -1,5 +1,7 @@
 // The walk through a stored index, table by table, with expansion on demand: its loop and the public call.
 // Port of scryer-prolog's switch_on_term and its loop (indexing_scan.rs).
+#![tactic(auto)]
+
 mod store;
 mod turns;
 
@@ -18,7 +20,7 @@ ghost use Rattle.indexing_walk.specs.Walking.{Stands, Walks};
 use indexing_iter::{Checked, Settings};
 
 // What a switch leads to: nothing, a clause, or a line by its number and the place of its first table.
-#[derive(Drop)]
+#[derive(Clone, Copy)]
 pub enum Looked {
     Failed,
     External(u32),
@@ -27,7 +29,7 @@ pub enum Looked {
 
 // Where a walk is: its line, its place, the first argument whose table may be left, the records and lines of the index, whether
 // expansions are stored, and the tables looked at.
-#[derive(Drop)]
+#[derive(Clone, Copy)]
 pub struct Walking {
     pub line: u32,
     pub at: usize,
@@ -39,7 +41,7 @@ pub struct Walking {
 }
 
 // How a walk ended: case, line number, count of offsets, tables looked at, whether all was stored, records of the index.
-#[derive(Drop)]
+#[derive(Clone, Copy)]
 pub struct Ended {
     pub case: u32,
     pub line: u32,
@@ -50,14 +52,14 @@ pub struct Ended {
 }
 
 // What a walk answers: a number of document 01's table, or how it ended.
-#[derive(Drop)]
+#[derive(Clone, Copy)]
 pub enum WalkAnswer {
     Refused(u32),
     Answered(Ended),
 }
 
 // One turn of a walk: on, or done.
-#[derive(Drop)]
+#[derive(Clone, Copy)]
 pub enum Turned {
     On(Walking),
     Done(Ended),

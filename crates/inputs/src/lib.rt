@@ -1,4 +1,6 @@
 // The input of the programs: a settings record, a record for each start, then code.
+#![tactic(auto)]
+
 ghost use Rattle.std.specs.Prelude.{◌≡◌, ◌+◌, ◌*◌, ◌≤◌, ◌<◌, min, length, get_or, drop, eqb};
 ghost use Rattle.records.specs.Records.{records_of, zero_rec};
 ghost use Rattle.indexing_builder.specs.Answer.{built_of};

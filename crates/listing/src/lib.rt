@@ -1,4 +1,6 @@
 // The listing of an index, as text: one line for each record, its five numbers in decimal with a blank between them.
+#![tactic(auto)]
+
 pub mod replay;
 
 ghost use Rattle.std.specs.Prelude.{◌≡◌, ◌+◌, ◌≤◌, ◌<◌, [], ◌∷◌, length, drop};

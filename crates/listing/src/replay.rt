@@ -6,7 +6,7 @@ ghost use Rattle.listing.specs.Replay.{Within};
 use records::Rec;
 
 // What comes next: an input of so many bytes, which stands at the front of the buffer, or none that is whole and fits.
-#[derive(Drop)]
+#[derive(Clone, Copy)]
 pub enum Next {
     Input(usize),
     Nothing,

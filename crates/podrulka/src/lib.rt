@@ -1,5 +1,7 @@
 // The face for programs in C and Rust: builder, size, fault, walk and witness over slices and numbers, with the results as numbers in a lent array.
 // include/podrulka.h declares the functions and says what each number means.
+#![tactic(auto)]
+
 ghost use Rattle.std.specs.Prelude.{◌≡◌, cond, [], ◌<◌};
 ghost use Rattle.indexing_iter.specs.Checks.{number_of};
 ghost use Rattle.indexing_iter.specs.Classes.{class_of};

@@ -1,5 +1,7 @@
 // Records of sixteen bytes in a lent byte buffer, the index or the code. Nothing above this crate sees a byte: readers
 // and writers are stated over `records_of`.
+#![tactic(auto)]
+
 ghost use Rattle.std.specs.Prelude.{◌≡◌, ◌+◌, ◌≤◌, ◌<◌, length, take, set, get_or};
 ghost use Rattle.records.specs.Bytes.{le16, le32, le64};
 ghost use Rattle.records.specs.Records.{decode, encode_rec, records_of, zero_rec, Wrote};
@@ -8,7 +10,7 @@ ghost use Rattle.records.specs.Moves.{written, moved, gapped};
 pub mod pointer;
 
 // A record by value. What each field means is said by whoever reads it.
-#[derive(Drop)]
+#[derive(Clone, Copy)]
 pub struct Rec {
     pub kind: u8,
     pub sub: u8,

@@ -1,5 +1,7 @@
 // Replays code inputs: prints the numbers that the checks give for each, and the keys of every clause of accepted code.
 // tools/replay_keys.py describes the input and makes it, with the expected output.
+#![tactic(auto)]
+
 ghost use Rattle.std.specs.Prelude.{◌≡◌, true, ◌+◌, ◌*◌, ◌≤◌, length};
 ghost use Rattle.records.specs.Records.{records_of};
 ghost use Rattle.indexing_iter.specs.Classes.{class_of};

@@ -1,5 +1,7 @@
 // Replays inputs of the program lines: prints for each its number and what lines prints of it.
 // tools/replay_lines.py describes the list of inputs and makes it, with the expected output.
+#![tactic(auto)]
+
 use listing::replay::Next;
 
 // Replays the inputs of the list, a million at most.

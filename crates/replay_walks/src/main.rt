@@ -1,5 +1,7 @@
 // Replays inputs of the program walks: prints for each its number and what walks prints of it.
 // tools/replay_walks.py describes the list of inputs and makes it, with the expected output.
+#![tactic(auto)]
+
 use listing::replay::Next;
 
 // Replays the inputs of the list, a million at most.

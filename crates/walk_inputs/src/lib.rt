@@ -1,4 +1,6 @@
 // The input of the program walks: settings, starts, a plan of the run, calls, the records of an index that is handed in, then code.
+#![tactic(auto)]
+
 ghost use Rattle.std.specs.Prelude.{◌≡◌, ◌+◌, ◌-◌, ◌*◌, ◌/◌, ◌≤◌, ◌<◌, min, ◌++◌, length, get_or, replicate};
 ghost use Rattle.records.specs.Records.{records_of};
 ghost use Rattle.indexing_builder.specs.Answer.{built_of};
@@ -12,7 +14,7 @@ use records::Rec;
 
 // What an input says of its run: how many starts there are, the numbers in out, the records that the index has room for, whether an index is
 // handed in and with which record count, the place of the first call record, how many call records there are, and how many index records.
-#[derive(Drop)]
+#[derive(Clone, Copy)]
 pub struct Plan {
     pub starts: usize,
     pub out: u16,
@@ -25,7 +27,7 @@ pub struct Plan {
 }
 
 // How a run begins: the builder refuses, or an index is built, or one is given.
-#[derive(Drop)]
+#[derive(Clone, Copy)]
 pub enum First {
     Refused(u32),
     Built { count: usize, variable: u32 },

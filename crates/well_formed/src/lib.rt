@@ -1,5 +1,7 @@
 // Number 12: whether a handed-in index is well formed. Its lines are counted, then its records are checked in one pass from the last to the
 // first, with the keys of each switch compared where its record is met.
+#![tactic(auto)]
+
 pub mod forms;
 mod keys;
 mod steps;
@@ -16,7 +18,7 @@ ghost use Rattle.well_formed.specs.Chains.{Cleared};
 // The state of the pass. Of what has no table or line record in front of it yet: how many entries, the group of the first of
 // them (4: none) and what the argument of their switch must be below; the first dead clause (0: none); the first table's
 // argument (33: none); the first offset (0: none). And how many lines are behind.
-#[derive(Drop)]
+#[derive(Clone, Copy)]
 pub struct Waits {
     pub entries: usize,
     pub group: u8,

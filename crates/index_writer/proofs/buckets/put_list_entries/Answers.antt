@@ -1,0 +1,53 @@
+-- `buckets::put_list_entries` writes the entries of the list group. Assumes nothing.
+use mathlib.Core.Path.{◌≡◌, sym, ap, ◌∙◌}
+use mathlib.Core.List.{◌∷◌, []}
+use Prim.Native.Nat.{ℕ, ◌+◌, ◌<◌}
+use native.Mathlib.Omega.{arith}
+use lib.ListN.{length}
+use Rattle.records.specs.Records.{rec_of, records_of}
+use Rattle.records.proofs.Laws.{length-records_of}
+use Rattle.indexing.specs.Columns.{entries, list_entries}
+use Rattle.index_writer.proofs.Left.{one-room, room_as, puts_one, puts-as}
+use Rattle.index_writer.proofs.BucketLaws.{list-empty, list_full}
+use borrow.Author.Rules.{rules}
+use Rattle.index_writer.proofs.buckets.put_list_entries.Goals.{Else-empty_list, Then-empty_list}
+use Rattle.index_writer.proofs.buckets.put_list_entries.Goals as goal
+
+-- no clause has a list: one entry is to be written, and there is room for it
+none : (t : Then-empty_list) → let a = t.args in list_entries a.leaders.now a.heads.now a.bits.now a.offs.now a.dynamic (a.d + a.by) ≡ rec_of 5 5 0 (2147483648 + (a.d + a.by)) 0 ∷ []
+none t = let a = t.args in list-empty a.leaders.now a.heads.now a.bits.now a.offs.now a.dynamic (a.d + a.by) (sym t.empty_list.ensures ∙ t.if-empty_list.true)
+
+room : (t : Then-empty_list) → let a = t.args in a.p < length (records_of a.index.now)
+room t = one-room (none t) t.requires.by_in_bounds
+
+-- else they are those of the group
+some : (t : Else-empty_list)
+    → let a = t.args in
+    list_entries a.leaders.now a.heads.now a.bits.now a.offs.now a.dynamic (a.d + a.by) ≡ entries a.leaders.now a.heads.now a.bits.now a.offs.now a.dynamic 2 (a.d + a.by)
+some t = let a = t.args in list_full a.leaders.now a.heads.now a.bits.now a.offs.now a.dynamic (a.d + a.by) (sym t.empty_list.ensures ∙ t.if-empty_list.false)
+
+pub put-requires : goal.put-requires
+put-requires c = room (goal.at.put-requires c).Then-empty_list
+
+pub overflow_add-result : goal.overflow_add-result
+overflow_add-result c = omega (arith, room (goal.at.overflow_add-result c).Then-empty_list, length-records_of c.args.index.now)
+
+pub returns-then-empty_list : goal.returns-then-empty_list
+returns-then-empty_list c =
+    let a = c.args in
+    let w = c.put in
+    puts_one a.index.now w.new.index a.p (none (goal.at.returns-then-empty_list c).Then-empty_list) (ap (λ (x : ℕ). rec_of 5 5 0 x 0) c.line_pointer-word.ensures) c.requires.by_in_bounds w.ensures
+
+pub put_entries-requires : goal.put_entries-requires
+put_entries-requires c =
+    record {
+      heads_len = c.requires.heads_len;
+      sizes_value = c.requires.sizes_value;
+      by_in_bounds = room_as c.args.p (some (goal.at.put_entries-requires c).Else-empty_list) c.requires.by_in_bounds;
+    }
+
+pub returns : goal.returns
+returns c =
+    let a = c.args in
+    let w = c.put_entries in
+    puts-as a.index.now w.new.index a.p w.result (some (goal.at.returns c).Else-empty_list) w.ensures

@@ -1,0 +1,27 @@
+-- `choices::count_members` counts the clauses that clause i leads, one test a turn. Assumes nothing.
+use mathlib.Core.Path.{◌≡◌, refl, sym, ◌∙◌}
+use mathlib.Core.Logic.{⊎_elim}
+use Prim.Native.Nat.{◌-◌}
+use native.Mathlib.Omega.{arith}
+use lib.ListN.{length}
+use Rattle.indexing.specs.Columns.{member, size_of}
+use Rattle.index_writer.proofs.Upto.{Counted, counted_start, counted-yes, counted-no, counted-end}
+use Rattle.index_writer.proofs.choices.count_members.Goals as goal
+
+pub loop-j-init : goal.loop-j-init
+loop-j-init c = (refl, counted_start _ _)
+
+pub loop-j-preserved : goal.loop-j-preserved
+loop-j-preserved c =
+    let e = c.in_bucket.ensures in (
+      refl,
+      ⊎_elim (λ w. counted-yes _ c.loop-j.invariant.1 (omega arith) (sym e ∙ w.0.taken) w.1)
+          (λ w. counted-no _ c.loop-j.invariant.1 (omega arith) (sym e ∙ w.0.left) w.1) c.if-in_bucket.branch,
+    )
+
+pub returns : goal.returns
+unfolding size_of
+returns c = record {
+      value = counted-end c.loop-j.invariant.1 (omega arith);
+      upper_bound = omega arith;
+    }

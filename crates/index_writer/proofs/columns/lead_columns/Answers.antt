@@ -1,0 +1,14 @@
+-- `columns::lead_columns` finds the leaders, and then counts what each leads. Assumes nothing.
+use native.Mathlib.Omega.{arith}
+use lib.ListN.{length}
+use Rattle.index_writer.proofs.ColumnLaws.{leaders-below}
+use borrow.Author.Rules.{rules}
+use Rattle.index_writer.proofs.columns.lead_columns.Goals as goal
+
+pub count_sizes-requires : goal.count_sizes-requires
+count_sizes-requires c =
+    let f = c.find_leaders in
+    record {
+      sizes_len = omega (arith, c.requires, f.auto.heads);
+      numbers_below = leaders-below c.args.heads.now c.args.bits.now f.new.leaders (length c.args.heads.now) f.ensures;
+    }

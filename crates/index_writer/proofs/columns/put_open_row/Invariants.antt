@@ -1,0 +1,15 @@
+use mathlib.Core.Path.{◌≡◌, sym, ◌∙◌}
+use Prim.Native.Nat.{◌-◌}
+use native.Mathlib.Omega.{arith}
+use lib.ListN.{length}
+use Rattle.records.proofs.Filled.{Filled, fill_start, fill_more}
+use Rattle.index_writer.specs.Choices.{open_numbers}
+use Rattle.index_writer.proofs.ColumnLaws.{fill-whole, length-open, get_or-open}
+use borrow.Author.Rules.{rules}
+use Rattle.index_writer.proofs.columns.put_open_row.Given as goal
+
+abbrev pub invariant-loop-b : goal.invariant-loop-b
+invariant-loop-b l = (l.n ≡ l.arity) × (length (open_numbers l.heads l.arity) ≡ 32) × Filled (open_numbers l.heads l.arity) l.initial.opens l.opens l.b
+
+abbrev pub decreases-loop-b : goal.decreases-loop-b
+decreases-loop-b l = 32 - l.b

@@ -1,0 +1,21 @@
+use mathlib.Core.Path.{◌≡◌, refl, sym, ◌∙◌}
+use Prim.Native.Nat.{◌+◌, ◌-◌, ◌*◌}
+use native.Mathlib.Omega.{arith}
+use lib.ListN.{length}
+use Rattle.records.specs.Records.{records_of}
+use Rattle.records.proofs.Filled.{Filled, fill_start, fill_more}
+use Rattle.indexing_iter.specs.Classes.{class_of}
+use Rattle.indexing_iter.specs.Clauses.{key_of}
+use Rattle.indexing.specs.Columns.{heads_to, bits_to}
+use Rattle.indexing.proofs.BridgeColumns.{length-heads, length-bits, get_or-heads, get_d_bits}
+use Rattle.index_writer.proofs.ColumnLaws.{fill-whole, column-room, column-in, column-done, Rows, rows_start, row-wide, row_room, rows_more, rows_end}
+use borrow.Author.Rules.{rules}
+use Rattle.index_writer.proofs.columns.read_keys.Given as goal
+
+abbrev pub invariant-loop-i : goal.invariant-loop-i
+invariant-loop-i l = let K = key_of class_of (records_of l.code) l.starts in
+    (l.n ≡ length l.offs) × (length (heads_to K l.offs l.a (length l.offs)) ≡ l.n) × (length (bits_to K l.offs l.a (length l.offs)) ≡ l.n)
+    × Filled (heads_to K l.offs l.a (length l.offs)) l.initial.heads l.heads l.i × Filled (bits_to K l.offs l.a (length l.offs)) l.initial.bits l.bits l.i × Rows K l.arity l.offs l.initial.opens l.opens l.i
+
+abbrev pub decreases-loop-i : goal.decreases-loop-i
+decreases-loop-i l = l.n - l.i

@@ -1,0 +1,48 @@
+-- The keys of one clause, read into two small lists. Assumes nothing.
+use Rattle.records.specs.Records.{records_of}
+use Rattle.indexing_iter.specs.Classes.{class_of}
+use Rattle.indexing_iter.specs.Keys.{bits_of}
+use Rattle.indexing_iter.specs.Rows.{head_of}
+use Rattle.indexing_iter.proofs.KeyLaws.{code_ok}
+use Rattle.index_writer.proofs.ColumnLaws.{row_at, row_open}
+use mathlib.Core.Path.{◌∙◌}
+use native.Mathlib.Omega.{arith}
+use borrow.Author.Rules.{rules}
+use Rattle.index_writer.proofs.columns.read_row.Goals as goal
+
+slice-aggregate-collect-opt-arg-index-keys-2 :
+    tie.Need-slice-aggregate-collect-opt-arg-index-keys-2
+slice-aggregate-collect-opt-arg-index-keys-2 c = search rules
+
+pub collect_opt_arg_index_keys-requires : goal.collect_opt_arg_index_keys-requires
+collect_opt_arg_index_keys-requires c =
+    let o = code_ok class_of c.args.arity c.args.code.now c.args.starts.now c.requires.starts_value in
+    record {
+      starts_value = c.requires.starts_value;
+      offset_value = c.requires.offset_value;
+      arity_in_bounds = (o.arity-to, o.arity-to);
+    }
+
+pub put_open_row-requires : goal.put_open_row-requires
+put_open_row-requires c =
+    let o = code_ok class_of c.args.arity c.args.code.now c.args.starts.now c.requires.starts_value in
+    (search rules, omega (arith, o.arity-to), o.arity-to)
+
+pub bounds-heads-at : goal.bounds-heads-at
+bounds-heads-at c =
+    let o = code_ok class_of c.args.arity c.args.code.now c.args.starts.now c.requires.starts_value in
+    omega (arith, o.arity-to)
+
+pub bounds-bits-at : goal.bounds-bits-at
+bounds-bits-at c =
+    let o = code_ok class_of c.args.arity c.args.code.now c.args.starts.now c.requires.starts_value in
+    omega (arith, o.arity-to)
+
+pub returns : goal.returns
+returns c = let k = c.collect_opt_arg_index_keys in
+    let a = c.args in
+    let rs = records_of a.code.now in record {
+      head_value = row_at head_of class_of rs a.starts.now a.offset a.arity _ _ a.a k.ensures.heads_after (omega arith) (omega arith);
+      bits_value = row_at bits_of class_of rs a.starts.now a.offset a.arity _ _ a.a k.ensures.bits_after (omega arith) (omega arith);
+      opens_after = c.put_open_row.ensures ∙ row_open class_of a.code.now a.starts.now a.offset a.arity _ _ c.requires.offset_value c.requires.starts_value k.ensures.heads_after;
+    }

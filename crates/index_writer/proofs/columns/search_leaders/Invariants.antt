@@ -1,0 +1,15 @@
+use mathlib.Core.Path.{◌≡◌, refl, sym, ◌∙◌}
+use Prim.Native.Nat.{◌-◌}
+use native.Mathlib.Omega.{arith}
+use lib.ListN.{length}
+use Rattle.records.proofs.Filled.{Filled, fill_start, fill_more}
+use Rattle.indexing.specs.Columns.{leaders_to}
+use Rattle.index_writer.proofs.ColumnLaws.{fill-whole, length-leaders, get_or-leaders}
+use borrow.Author.Rules.{rules}
+use Rattle.index_writer.proofs.columns.search_leaders.Given as goal
+
+abbrev pub invariant-loop-j : goal.invariant-loop-j
+invariant-loop-j l = (l.n ≡ length l.heads) × (length (leaders_to l.heads l.bits l.n) ≡ l.n) × Filled (leaders_to l.heads l.bits l.n) l.initial.leaders l.leaders l.j
+
+abbrev pub decreases-loop-j : goal.decreases-loop-j
+decreases-loop-j l = l.n - l.j

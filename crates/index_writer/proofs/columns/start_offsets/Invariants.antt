@@ -1,0 +1,15 @@
+use mathlib.Core.Path.{◌≡◌, refl}
+use Prim.Native.Nat.{ℕ, ◌-◌, suc}
+use native.Mathlib.Omega.{arith}
+use lib.ListN.{length, length-map}
+use Rattle.records.proofs.Filled.{Filled, fill_start, fill_more}
+use Rattle.indexing_iter.specs.Clauses.{offsets_of}
+use Rattle.index_writer.proofs.ColumnLaws.{fill-whole, get_or-offsets}
+use borrow.Author.Rules.{rules}
+use Rattle.index_writer.proofs.columns.start_offsets.Given as goal
+
+abbrev pub invariant-loop-i : goal.invariant-loop-i
+invariant-loop-i l = (l.n ≡ length l.starts) × (length (offsets_of l.starts) ≡ l.n) × Filled (offsets_of l.starts) l.initial.offs l.offs l.i
+
+abbrev pub decreases-loop-i : goal.decreases-loop-i
+decreases-loop-i l = l.n - l.i

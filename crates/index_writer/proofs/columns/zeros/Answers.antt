@@ -1,0 +1,22 @@
+-- The first i numbers are 0. Assumes nothing.
+use mathlib.Core.Path.{◌≡◌, refl}
+use Prim.Native.Nat.{ℕ, ◌-◌}
+use native.Mathlib.Omega.{arith}
+use lib.ListN.{length, replicate, length-replicate, get_or-replicate}
+use Rattle.records.proofs.Filled.{Filled, fill_start, fill_more}
+use Rattle.index_writer.proofs.ColumnLaws.{fill-whole}
+use borrow.Author.Rules.{rules}
+use Rattle.index_writer.proofs.columns.zeros.Goals as goal
+
+pub loop-i-init : goal.loop-i-init
+loop-i-init c = let n : ℕ = length c.args.column.now in
+    let l = length-replicate {A = ℕ} n 0 in
+    (refl, l, fill_start {A = ℕ} (replicate n 0) c.args.column.now (omega arith))
+
+pub loop-i-preserved : goal.loop-i-preserved
+loop-i-preserved c = let l = c.loop-i in
+    (refl, l.invariant.1, fill_more 0 0 l.invariant.2 (omega arith) (get_or-replicate _ _ 0 0 c.loop-i-test.true))
+
+pub returns : goal.returns
+returns c = let l = c.loop-i in
+    fill-whole l.invariant.2 (omega arith) (omega arith)

@@ -1,0 +1,32 @@
+-- `later_tables::put_dead_clauses` writes the dead clauses of a bucket: turn j writes that of clause j, if it is open. Assumes nothing.
+use mathlib.Core.Path.{◌≡◌, refl}
+use mathlib.Core.Bool.{cond}
+use mathlib.Core.List.{[], ◌∷◌}
+use Prim.Native.Nat.{◌-◌}
+use native.Mathlib.Omega.{arith}
+use lib.ListN.{length, get_or}
+use Rattle.records.specs.Records.{rec_of}
+use Rattle.indexing.specs.Columns.{open_member, dead_clauses}
+use Rattle.index_writer.proofs.Gather.{Gathered, gather-start, gather-room, gather-more, gather-end}
+use Rattle.index_writer.proofs.later_tables.put_dead_clauses.Goals as goal
+
+pub loop-j-init : goal.loop-j-init
+unfolding dead_clauses
+loop-j-init c = let a = c.args in
+    (refl, gather-start _ _ a.index.now a.p c.requires.b_in_bounds)
+
+pub put_dead_clause-q-requires : goal.put_dead_clause-q-requires
+put_dead_clause-q-requires c =
+    record {
+      leaders_len_bound = c.requires.leaders_len_bound;
+      le_b = omega arith;
+      j_in_bounds = gather-room _ c.loop-j.invariant.1 c.loop-j-test.true refl;
+    }
+
+pub loop-j-preserved : goal.loop-j-preserved
+loop-j-preserved c = let w = c.put_dead_clause-q in
+    (refl, gather-more w.new.index w.result _ c.loop-j.invariant.1 c.loop-j-test.true refl w.auto.index w.ensures)
+
+pub returns : goal.returns
+unfolding dead_clauses
+returns c = gather-end c.loop-j.invariant.1 c.loop-j-test.false

@@ -1,0 +1,42 @@
+-- `later_tables::tables_room` counts the records of a line's tables: after t turns those of t tables. Assumes nothing.
+use mathlib.Core.Path.{◌≡◌, sym, ap, ◌∙◌}
+use mathlib.Core.List.{List}
+use Prim.Native.Nat.{ℕ, ◌+◌, ◌-◌, ◌*◌, ◌≤◌}
+use native.Mathlib.Omega.{arith}
+use lib.ListN.{length}
+use Rattle.indexing.specs.Upto.{list_to}
+use Rattle.indexing.specs.Columns.{table_at, tables_at}
+use Rattle.index_writer.proofs.Upto.{list-none}
+use Rattle.index_writer.proofs.LineLaws.{length_more}
+use Rattle.index_writer.proofs.later_tables.tables_room.Goals as goal
+
+pub loop-t-init : goal.loop-t-init
+loop-t-init c = (omega arith, omega arith, λ offs. sym (ap length (list-none _)))
+
+pub table_room-room-requires : goal.table_room-room-requires
+table_room-room-requires c = record {
+      leaders_len_bound = omega arith;
+      le_b = omega arith;
+    }
+
+pub loop-t-preserved : goal.loop-t-preserved
+loop-t-preserved c =
+    let a = c.args in (
+      omega arith,
+      omega arith,
+      λ offs. omega (
+        arith,
+        c.loop-t.invariant.2 offs,
+        c.table_room-room.ensures.by_index offs,
+        length_more (λ t. table_at a.leaders.now a.opens.now offs a.mask a.extensible a.i (a.b + t)) c.loop-t.t,
+      ),
+    )
+
+pub returns : goal.returns
+unfolding tables_at
+returns c =
+    let a = c.args in
+    let e : c.loop-t.t ≡ a.k = omega arith in record {
+      by_index = λ offs. c.loop-t.invariant.2 offs ∙ ap (λ (x : ℕ). length (list_to (λ t. table_at a.leaders.now a.opens.now offs a.mask a.extensible a.i (a.b + t)) x)) e;
+      upper_bound = omega arith;
+    }

@@ -1,0 +1,16 @@
+use mathlib.Core.Path.{◌≡◌, sym, ap, ◌∙◌}
+use mathlib.Core.List.{List}
+use Prim.Native.Nat.{ℕ, ◌+◌, ◌-◌, ◌*◌, ◌≤◌}
+use native.Mathlib.Omega.{arith}
+use lib.ListN.{length}
+use Rattle.indexing.specs.Upto.{list_to}
+use Rattle.indexing.specs.Columns.{table_at, tables_at}
+use Rattle.index_writer.proofs.Upto.{list-none}
+use Rattle.index_writer.proofs.LineLaws.{length_more}
+use Rattle.index_writer.proofs.later_tables.tables_room.Given as goal
+
+abbrev pub invariant-loop-t : goal.invariant-loop-t
+invariant-loop-t l = (l.t ≤ l.k) × (l.room ≤ 1025 * l.t) × ((offs : List ℕ) → l.room ≡ length (list_to (λ l.t. table_at l.leaders l.opens offs l.mask l.extensible l.i (l.b + l.t)) l.t))
+
+abbrev pub decreases-loop-t : goal.decreases-loop-t
+decreases-loop-t l = l.k - l.t

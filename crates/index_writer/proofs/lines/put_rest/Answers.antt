@@ -1,0 +1,46 @@
+-- `lines::put_rest` writes the tables of a line, and its offsets after them. Assumes nothing.
+use borrow.Author.Rules.{rules}
+use native.Mathlib.Omega.{arith}
+use mathlib.Core.Path.{refl}
+use Rattle.index_writer.proofs.Left.{Left, left-start, left-room, left-run, left-all}
+use Rattle.index_writer.proofs.LineLaws.{tables_of, choices_of, rest_of}
+use Rattle.index_writer.proofs.lines.put_rest.Goals.{After-put_tables-q, Start}
+use Rattle.index_writer.proofs.lines.put_rest.Goals as goal
+
+-- all is left to write, and then the offsets
+begin : (s : Start)
+    → let a = s.args in
+    let rest = rest_of a.leaders.now a.opens.now a.offs.now a.tags.now a.settings a.arg a.i in
+    Left a.index.now a.p rest a.p rest a.index.now
+begin s = left-start s.args.index.now s.args.p _ _ refl s.requires.i_in_bounds
+
+after-tables : (c : After-put_tables-q)
+    → let a = c.args in
+    Left a.index.now a.p (rest_of a.leaders.now a.opens.now a.offs.now a.tags.now a.settings a.arg a.i) c.put_tables-q.result
+    (choices_of a.leaders.now a.opens.now a.offs.now a.tags.now a.settings a.arg a.i) c.put_tables-q.new.index
+after-tables c =     let w = c.put_tables-q in
+    left-run w.new.index w.result _ _ (begin c) w.ensures.0 w.auto.index w.ensures.1
+
+pub put_tables-q-requires : goal.put_tables-q-requires
+put_tables-q-requires c =
+    let a = c.args in
+    let n = c.requires.leaders_len_bound in
+    let tables = tables_of a.leaders.now a.opens.now a.offs.now a.tags.now a.settings a.arg a.i in
+    let choices = choices_of a.leaders.now a.opens.now a.offs.now a.tags.now a.settings a.arg a.i in
+    record {
+      leaders_len_bound = (n.0, n.1, n.2);
+      le_b = omega (arith, c.requires.arg_le_arity);
+      k_in_bounds = left-room tables choices (begin (goal.at.put_tables-q-requires c).Start);
+    }
+
+pub put_choices-requires : goal.put_choices-requires
+put_choices-requires c =
+    record {
+      leaders_len_bound = (c.requires.leaders_len_bound.0, c.requires.leaders_len_bound.2, c.requires.leaders_len_bound.3);
+      n_value = c.count_members-n.ensures.value;
+      i_in_bounds = (after-tables (goal.at.put_choices-requires c).After-put_tables-q).room;
+    }
+
+pub returns : goal.returns
+returns c = let w = c.put_choices in
+    left-all w.new.index w.result _ (after-tables (goal.at.returns c).After-put_tables-q) w.ensures.0 w.auto.index w.ensures.1

@@ -1,0 +1,49 @@
+-- `lines::put_seed` writes the line record, the on-demand record for the argument, and the rest of line 0 after them. Assumes nothing.
+use borrow.Author.Rules.{rules}
+use mathlib.Core.Path.{ap, ◌∙◌}
+use mathlib.Core.List.{[], ◌∷◌, ◌++◌}
+use Prim.Native.Nat.{ℕ}
+use native.Mathlib.Omega.{arith}
+use lib.ListN.{length}
+use Rattle.records.specs.Records.{rec_of}
+use Rattle.records.proofs.Grown.{grow-start, grow-one, grow-run, grow-end, grow-as}
+use Rattle.index_writer.proofs.LineLaws.{rest_of, seed-parts}
+use Rattle.index_writer.proofs.lines.put_seed.Goals as goal
+
+pub put-requires : goal.put-requires
+put-requires c =
+    let a = c.args in
+    omega (arith, ap length (seed-parts a.zeros.now a.opens.now a.offs.now a.tags.now a.settings a.arg), c)
+
+pub put-requires-2 : goal.put-requires-2
+put-requires-2 c =
+    let a = c.args in
+    omega (arith, ap length (seed-parts a.zeros.now a.opens.now a.offs.now a.tags.now a.settings a.arg), c, c.put)
+
+pub put_rest-requires : goal.put_rest-requires
+put_rest-requires c =
+    let a = c.args in
+    record {
+      leaders_len_bound = omega (arith, c);
+      arg_le_arity = omega (arith, c);
+      i_in_bounds = omega (arith, ap length (seed-parts a.zeros.now a.opens.now a.offs.now a.tags.now a.settings a.arg), c, c.put-2, c.put);
+    }
+
+pub returns : goal.returns
+returns c =
+    let a = c.args in
+    let mode = c.mode_of-sub in
+    let w = c.put in
+    let u = c.put-2 in
+    let v = c.put_rest in
+    let rest = rest_of a.zeros.now a.opens.now a.offs.now a.tags.now a.settings a.arg 0 in
+    let e = seed-parts a.zeros.now a.opens.now a.offs.now a.tags.now a.settings a.arg in
+    let m = ap (λ (x : ℕ). (([] ++ (rec_of 1 x 0 0 0 ∷ [])) ++ (rec_of 3 0 a.arg 0 0 ∷ [])) ++ rest) mode.ensures ∙ e in
+    let g0 = grow-start a.index.now 0 (omega (arith, c)) in
+    let g1 = grow-one w.new.index (rec_of 1 mode.result 0 0 0) g0 (omega (arith, c, ap length e)) w.auto.index w.ensures in
+    let g2 = grow-one u.new.index (rec_of 3 0 a.arg 0 0) g1 (omega (arith, c, ap length e)) u.auto.index u.ensures in
+    let g3 = grow-run v.new.index v.result rest g2 v.ensures.0 (omega (arith, c, ap length e, v.ensures.0)) v.auto.index v.ensures.1 in
+    record {
+      value = omega (arith, (grow-as m g3).next);
+      wrote = grow-end (grow-as m g3);
+    }

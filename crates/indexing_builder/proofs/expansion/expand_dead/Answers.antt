@@ -1,0 +1,50 @@
+-- `expansion::expand_dead` compares the size with the capacity, and then writes the dead table into the gap that it opens. Assumes nothing.
+use mathlib.Core.Path.{◌≡◌, refl}
+use mathlib.Core.List.{List, []}
+use Prim.Native.Nat.{◌+◌, ◌-◌, ◌≤◌}
+use native.Mathlib.Omega.{arith}
+use lib.ListN.{length}
+use Rattle.records.specs.declared.Rec.{Rec}
+use Rattle.records.proofs.MoveLaws.{splice-steps}
+use Rattle.records.proofs.Grown.{wrote_none}
+use Rattle.indexing.specs.Columns.{dead_recs}
+use Rattle.indexing_builder.proofs.ExpansionLaws.{answer-none, answer-stored, dead-some}
+use borrow.Author.Rules.{rules}
+use Rattle.indexing_builder.proofs.expansion.expand_dead.Goals.{After-dead_room-more}
+use Rattle.indexing_builder.proofs.expansion.expand_dead.Goals as goal
+
+abbrev dead : tie.Start → List Rec
+dead s = dead_recs s.args.zeros.now s.args.opens.now s.args.offs.now s.args.t.arg
+
+-- its room
+room : (c : After-dead_room-more) → (c.dead_room-more.result ≡ length (dead c)) × (1 ≤ length (dead c))
+room c =     let a = c.args in
+    (c.dead_room-more.ensures.by_index a.offs.now, dead-some a.zeros.now a.opens.now a.offs.now a.t.arg)
+
+pub overflow_sub-more : goal.overflow_sub-more
+overflow_sub-more c = omega (arith, room (goal.at.overflow_sub-more c).After-dead_room-more)
+
+pub returns-then-t-total : goal.returns-then-t-total
+returns-then-t-total c = record { answer = answer-none c.args.t.capacity _ _ (omega (arith, room (goal.at.returns-then-t-total c).After-dead_room-more, c.if-t-total)); leaves = refl }
+
+pub put_dead-requires : goal.put_dead-requires
+put_dead-requires c =
+    record {
+      zeros_len_bound = c.requires.zeros_len_bound;
+      le_arg = omega (arith, c);
+      arg_in_bounds = omega (arith, c, room (goal.at.put_dead-requires c).After-dead_room-more, c.if-t-total, c.open_gap.ensures.count);
+    }
+
+pub returns : goal.returns
+returns c =
+    let a = c.args in
+    let r = room (goal.at.returns c).After-dead_room-more in
+    let k = c.dead_room-more.result - 1 in
+    let o = c.open_gap in
+    let w = c.put_dead in
+    record {
+      answer = answer-stored a.t.capacity (a.t.count + k) a.t.lines (omega (arith, r)) (omega arith) c.if-t-total.false;
+      leaves =
+          splice-steps a.index.now o.new.index w.new.index w.new.index a.t.at a.t.count k (dead c) []
+          (omega (arith, c)) (omega (arith, c, c.if-t-total)) (omega (arith, r)) o.ensures w.ensures.1 (wrote_none w.new.index (a.t.count + k) [] refl);
+    }

@@ -1,0 +1,18 @@
+use Prim.Native.Nat.{◌-◌, ◌+◌}
+use mathlib.Core.Path.{◌≡◌}
+use mathlib.Core.Bool.{◌||◌}
+use native.Mathlib.Omega.{arith}
+use lib.ListN.{length, drop}
+use borrow.Author.Rules.{rules}
+use Rattle.records.specs.Records.{records_of}
+use Rattle.indexing_iter.specs.Classes.{class_of}
+use Rattle.indexing_iter.specs.Clauses.{clauses_of}
+use Rattle.indexing_iter.specs.Checks.{open_somewhere}
+use Rattle.indexing_iter.proofs.CheckLaws.{clauses-step, clauses-none, end-within}
+use Rattle.indexing_iter.proofs.checks.open_somewhere.Given as goal
+
+abbrev pub invariant-loop-i : goal.invariant-loop-i
+invariant-loop-i l = open_somewhere class_of l.c (clauses_of (records_of l.code) (drop l.i l.starts)) ≡ open_somewhere class_of l.c (clauses_of (records_of l.code) l.starts)
+
+abbrev pub decreases-loop-i : goal.decreases-loop-i
+decreases-loop-i l = length l.starts - l.i

@@ -1,0 +1,93 @@
+-- Clearing and then one pass over the records: the records left give the keys of the clause. Assumes nothing.
+use Prim.Native.Nat.{◌-◌, ◌+◌}
+use mathlib.Core.Path.{◌≡◌, ap, ◌∙◌}
+use mathlib.Core.Logic.{⊎_elim}
+use native.Mathlib.Omega.{arith}
+use lib.ListN.{length, get_or, set, length-set}
+use lib.Seq.{slice}
+use borrow.Author.Rules.{rules}
+use Rattle.records.specs.Records.{records_of, zero_rec}
+use Rattle.indexing_iter.specs.Keys.{bits_of}
+use Rattle.indexing_iter.specs.Rows.{head_of}
+use Rattle.indexing_iter.proofs.Table.{class_in}
+use Rattle.indexing_iter.proofs.Parts.{slice-step, slice-done, read-over}
+use Rattle.indexing_iter.proofs.KeyLaws.{known-within}
+use Rattle.indexing_iter.proofs.FillLaws.{collected, collected-cleared, Filling, FillingStep, filling-start, filling_step, filling-end, filling-as}
+use Rattle.indexing_iter.proofs.collect_keys.Goals.{After-extract_index_arg-a}
+use Rattle.indexing_iter.proofs.collect_keys.Goals as goal
+
+-- in a turn: what the record at i says of the lists
+turn : (c : After-extract_index_arg-a)
+    → 
+    let a = c.args in
+    FillingStep c.extract_index_arg-a.result (class_in a.table.now) a.arity (slice (c.loop-i.i + 1) c.capacity-end.result (records_of a.code.now))
+    c.loop-i.heads c.loop-i.bits
+    (collected head_of (class_in a.table.now) a.arity a.code.now a.starts.now a.offset c.clear_keys.new.heads)
+    (collected bits_of (class_in a.table.now) a.arity a.code.now a.starts.now a.offset c.clear_keys.new.bits)
+turn c =
+    let rs = records_of c.args.code.now in
+    filling_step (get_or rs c.loop-i.i zero_rec) (slice (c.loop-i.i + 1) c.capacity-end.result rs) c.extract_index_arg-a.result c.loop-i.invariant.2
+    (slice-step rs c.loop-i.i c.capacity-end.result c.loop-i-test.true (search rules)) c.extract_index_arg-a.ensures
+
+pub overflow_sub-i : goal.overflow_sub-i
+overflow_sub-i c =
+    omega (arith, known-within (class_in c.args.table.now) c.args.arity c.args.code.now c.args.starts.now c.args.offset c.requires.offset_value c.requires.starts_value)
+
+pub loop-i-init : goal.loop-i-init
+loop-i-init c =
+    let a = c.args in (
+      search rules,
+      search rules,
+      filling-start (class_in a.table.now) a.arity a.code.now a.starts.now a.offset _ c.requires.offset_value c.requires.starts_value c.capacity-end.ensures
+          a.heads.now a.bits.now c.clear_keys.new.heads c.clear_keys.new.bits (search rules) (search rules)
+          c.clear_keys.ensures.0 c.clear_keys.ensures.1,
+    )
+
+pub returns-in_default : goal.returns-in_default
+returns-in_default c =
+    let a = c.args in
+    let w = rw c.in_default.is at (turn (goal.at.returns-in_default c).After-extract_index_arg-a) in record {
+      heads_after = w.0 ∙ collected-cleared head_of (class_in a.table.now) a.arity a.code.now a.starts.now a.offset a.heads.now _ c.clear_keys.ensures.0;
+      bits_after = w.1 ∙ collected-cleared bits_of (class_in a.table.now) a.arity a.code.now a.starts.now a.offset a.bits.now _ c.clear_keys.ensures.1;
+    }
+
+pub overflow_sub-at : goal.overflow_sub-at
+overflow_sub-at c = let w = rw c.in-ArgedHead-a.is at (turn (goal.at.overflow_sub-at c).After-extract_index_arg-a) in
+    omega (arith, w.0)
+
+pub bounds-heads-at : goal.bounds-heads-at
+bounds-heads-at c = let w = rw c.in-ArgedHead-a.is at (turn (goal.at.bounds-heads-at c).After-extract_index_arg-a) in
+    omega (arith, w.0, w.1, c.loop-i.invariant.2.heads-room)
+
+pub bounds-bits-at : goal.bounds-bits-at
+bounds-bits-at c = let w = rw c.in-ArgedHead-a.is at (turn (goal.at.bounds-bits-at c).After-extract_index_arg-a) in
+    omega (arith, w.0, w.1, c.loop-i.invariant.2.bits-room)
+
+pub loop-i-preserved : goal.loop-i-preserved
+loop-i-preserved c =
+    let l = c.loop-i in
+    ⊎_elim
+    (λ w.
+    let n = w.1.given.0.0 - 1 in
+    let k = rw w.1.given.1 at (turn (goal.at.loop-i-preserved c).After-extract_index_arg-a) in
+    let h : c.in-ArgedHead-a.heads ≡ set l.heads n (head_of w.1.given.0.1.0) = w.5 ∙ ap (set l.heads n) w.3.ensures.0 in
+    let b : c.in-ArgedHead-a.bits ≡ set l.bits n (bits_of w.1.given.0.1.0) = w.6 ∙ ap (set l.bits n) w.4.ensures in (
+      ap length h ∙ length-set l.heads n _ ∙ l.invariant.0,
+      ap length b ∙ length-set l.bits n _ ∙ l.invariant.1,
+      filling-as c.in-ArgedHead-a.heads c.in-ArgedHead-a.bits h b k.2,
+    ))
+    (λ w.
+    let over = read-over c.extract_index_arg-a.result c.in-ArgedHead.keys1 w.0.keys2 in (
+      ap length w.1 ∙ l.invariant.0,
+      ap length w.2 ∙ l.invariant.1,
+      filling-as c.in-ArgedHead-a.heads c.in-ArgedHead-a.bits w.1 w.2 (⊎_elim (λ e. rw e at (turn (goal.at.loop-i-preserved c).After-extract_index_arg-a)) (λ e. rw e at (turn (goal.at.loop-i-preserved c).After-extract_index_arg-a)) over),
+    ))
+    c.in-ArgedHead-a.branch
+
+pub returns : goal.returns
+returns c =
+    let a = c.args in
+    let w = filling-end c.loop-i.invariant.2 (slice-done (records_of a.code.now) _ _ c.loop-i-test.false) in record {
+      heads_after = w.0 ∙ collected-cleared head_of (class_in a.table.now) a.arity a.code.now a.starts.now a.offset a.heads.now _ c.clear_keys.ensures.0;
+      bits_after = w.1 ∙ collected-cleared bits_of (class_in a.table.now) a.arity a.code.now a.starts.now a.offset a.bits.now _ c.clear_keys.ensures.1;
+    }

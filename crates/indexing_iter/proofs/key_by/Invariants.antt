@@ -1,0 +1,17 @@
+use Prim.Native.Nat.{◌-◌, ◌+◌}
+use mathlib.Core.Path.{◌≡◌}
+use borrow.Author.Rules.{rules}
+use borrow.Author.Tests.{eq-eqb, ne_eqb}
+use mathlib.Core.Logic.{⊎_elim}
+use lib.Seq.{slice}
+use Rattle.records.specs.Records.{records_of}
+use Rattle.indexing_iter.specs.Keys.{key_in, key_step}
+use Rattle.indexing_iter.proofs.Parts.{slice-step, slice-done, read-over}
+use Rattle.indexing_iter.proofs.Table.{class_in}
+use Rattle.indexing_iter.proofs.key_by.Given as goal
+
+abbrev pub invariant-loop-i : goal.invariant-loop-i
+invariant-loop-i l = key_in (class_in l.table) (slice l.i l.end (records_of l.code)) l.j ≡ key_in (class_in l.table) (slice l.start l.end (records_of l.code)) l.j
+
+abbrev pub decreases-loop-i : goal.decreases-loop-i
+decreases-loop-i l = l.end - l.i

@@ -1,0 +1,25 @@
+-- The key at an argument of a clause: reading from its start to the code's end stops within it. Assumes nothing.
+use mathlib.Core.Path.{ap, sym, ◌∙◌}
+use mathlib.Core.List.{List}
+use lib.ListN.{drop}
+use lib.Seq.{take-length}
+use native.Mathlib.Omega.{arith}
+use Prim.Native.Nat.{◌-◌}
+use Rattle.records.specs.declared.Rec.{Rec}
+use Rattle.records.specs.Records.{records_of}
+use Rattle.indexing_iter.specs.Classes.{class_of}
+use Rattle.indexing_iter.specs.Keys.{key_in}
+use Rattle.indexing_iter.proofs.KeyLaws.{known-within, key-on}
+use borrow.Author.Rules.{rules}
+use Rattle.indexing_iter.proofs.key_of.Goals as goal
+
+pub overflow_sub-start : goal.overflow_sub-start
+overflow_sub-start c =
+    omega (arith, known-within class_of c.args.arity c.args.code.now c.args.starts.now c.args.offset c.requires.offset_value c.requires.starts_value)
+
+pub returns : goal.returns
+returns c =
+    let a = c.args in
+    c.key_at.ensures
+    ∙ ap (λ (rs : List Rec). key_in class_of (drop (a.offset - 1) rs) a.j) (sym (take-length (records_of a.code.now)))
+    ∙ key-on class_of a.arity a.code.now a.starts.now a.offset a.j c.requires.offset_value c.requires.starts_value

@@ -1,0 +1,32 @@
+-- The entries of a group: those counted, with those from place i on, are all. Assumes nothing.
+use mathlib.Core.Path.{◌≡◌, sym, ◌∙◌}
+use mathlib.Core.Bool.{true, false}
+use mathlib.Core.Logic.{⊎_elim}
+use Prim.Native.Nat.{◌+◌, ◌-◌, ◌≤◌}
+use native.Mathlib.Omega.{arith}
+use borrow.Author.Rules.{rules}
+use lib.Seq.{slice}
+use Rattle.records.specs.Records.{records_of}
+use Rattle.indexing_scan.specs.Places.{in_group, count_of}
+use Rattle.indexing_scan.proofs.Turns.{count_turn, count-end}
+use Rattle.indexing_scan.proofs.stored.count_group.Goals as goal
+
+pub loop-i-init : goal.loop-i-init
+loop-i-init c = (omega arith, omega arith, omega arith, omega arith)
+
+pub loop-i-preserved : goal.loop-i-preserved
+loop-i-preserved c =
+    let a = c.args in
+    let l = c.loop-i in
+    let r = c.get in
+    let u = count_turn (records_of a.index.now) l.i a.to r.result (omega arith) c.requires.1 r.ensures (in_group a.g) in
+    let e = sym c.in_group.ensures in
+    ⊎_elim
+    (λ w. let v = u true (e ∙ w.0.taken) in (omega arith, omega arith, omega (arith, w.1), omega (arith, v, w.1)))
+    (λ w. let v = u false (e ∙ w.0.left) in (omega arith, omega arith, omega (arith, w.1), omega (arith, v, w.1)))
+    c.if-in_group.branch
+
+pub returns : goal.returns
+returns c = let a = c.args in
+    let u = count-end (in_group a.g) (records_of a.index.now) c.loop-i.i a.to (omega arith) in
+    omega arith

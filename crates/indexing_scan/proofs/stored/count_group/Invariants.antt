@@ -1,0 +1,18 @@
+use mathlib.Core.Path.{◌≡◌, sym, ◌∙◌}
+use mathlib.Core.Bool.{true, false}
+use mathlib.Core.Logic.{⊎_elim}
+use Prim.Native.Nat.{◌+◌, ◌-◌, ◌≤◌}
+use native.Mathlib.Omega.{arith}
+use borrow.Author.Rules.{rules}
+use lib.Seq.{slice}
+use Rattle.records.specs.Records.{records_of}
+use Rattle.indexing_scan.specs.Places.{in_group, count_of}
+use Rattle.indexing_scan.proofs.Turns.{count_turn, count-end}
+use Rattle.indexing_scan.proofs.stored.count_group.Given as goal
+
+abbrev pub invariant-loop-i : goal.invariant-loop-i
+invariant-loop-i l = (l.from ≤ l.i) × (l.i ≤ l.to) × (l.count ≤ l.i)
+    × (l.count + count_of (in_group l.g) (slice l.i l.to (records_of l.index)) ≡ count_of (in_group l.g) (slice l.from l.to (records_of l.index)))
+
+abbrev pub decreases-loop-i : goal.decreases-loop-i
+decreases-loop-i l = l.to - l.i

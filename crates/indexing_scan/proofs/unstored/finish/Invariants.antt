@@ -1,0 +1,25 @@
+use Rattle.indexing_iter.proofs.CheckLaws.{code-arity}
+use Prim.Native.Nat.{◌+◌, ◌-◌}
+use mathlib.Core.Path.{◌≡◌, refl}
+use mathlib.Core.List.{[]}
+use mathlib.Core.Logic.{⊎_elim}
+use lib.ListN.{length, take}
+use native.Mathlib.Omega.{arith}
+use Rattle.records.specs.Records.{records_of}
+use Rattle.indexing_iter.specs.Classes.{class_of}
+use Rattle.indexing.specs.Build.{program_of}
+use Rattle.indexing_scan.specs.Calls.{call_of}
+use Rattle.indexing_scan.specs.ByArgument.{answer_from}
+use Rattle.indexing_scan.specs.Walk.{unstored}
+use Rattle.indexing_scan.proofs.CallLaws.{call-records}
+use Rattle.indexing_scan.proofs.UnstoredLaws.{Stepped, goes_first, goes_step, goes_end, Finishing, finishing-next}
+use borrow.Author.Rules.{rules}
+use Rattle.indexing_scan.proofs.unstored.finish.Given as goal
+
+abbrev pub invariant-loop-b : goal.invariant-loop-b
+invariant-loop-b l = let P = program_of class_of l.settings (records_of l.code) l.starts in
+    let A = answer_from P (call_of l.call) (l.settings.arity + 1 - l.a) l.a [] (unstored (take l.m l.initial.clauses)) in
+    Finishing P (call_of l.call) l.starts A l.a l.m (length l.initial.clauses) l.clauses l.count l.tables l.b
+
+abbrev pub decreases-loop-b : goal.decreases-loop-b
+decreases-loop-b l = l.settings.arity + 1 - l.b

@@ -1,0 +1,17 @@
+use mathlib.Core.Path.{◌≡◌, sym, ap, ◌∙◌}
+use Prim.Native.Nat.{◌+◌, ◌-◌, ◌≤◌}
+use native.Mathlib.Omega.{arith}
+use lib.ListN.{length, drop}
+use Rattle.records.specs.Records.{records_of}
+use Rattle.inputs.specs.Input.{starts_in}
+use Rattle.inputs.proofs.StartLaws.{starts_more, starts-stop, starts-end}
+use Rattle.records.specs.declared.Rec.{Rec}
+use Rattle.records.proofs.Laws.{length-records_of}
+use borrow.Author.Rules.{rules}
+use Rattle.inputs.proofs.count_starts.Given as goal
+
+abbrev pub invariant-loop-k : goal.invariant-loop-k
+invariant-loop-k l = (l.n ≡ length (records_of l.input)) × (l.k ≤ l.n) × (l.k + length (starts_in (drop (l.k + 1) (records_of l.input))) ≡ length (starts_in (drop 1 (records_of l.input))))
+
+abbrev pub decreases-loop-k : goal.decreases-loop-k
+decreases-loop-k l = l.n - l.k

@@ -1,0 +1,68 @@
+-- 6 and 7 record by record: the first of the records left, after the last register, is the first of all. Assumes nothing.
+use Prim.Native.Nat.{◌-◌, ◌+◌, ◌≤◌}
+use mathlib.Core.Path.{◌≡◌}
+use mathlib.Core.Bool.{false}
+use mathlib.Core.Logic.{⊎_elim}
+use native.Mathlib.Omega.{arith}
+use lib.Seq.{slice}
+use borrow.Author.Rules.{rules}
+use Rattle.records.specs.Records.{records_of}
+use Rattle.indexing_iter.specs.Classes.{arg_of_class}
+use Rattle.indexing_iter.specs.Faults.{bad_at}
+use Rattle.indexing_iter.proofs.Table.{class_in}
+use Rattle.indexing_iter.proofs.Parts.{read-over}
+use Rattle.locate.proofs.LocateLaws.{bad_from, bad_step, bad-whole, bad-step, bad-end}
+use Rattle.locate.proofs.bad_at.Goals.{After-arg_of_class-a, After-record_bad}
+use Rattle.locate.proofs.bad_at.Goals as goal
+
+-- in a turn: the record at i, and then those after it
+bad : (c : After-record_bad)
+    → 
+    let a = c.args in
+    let rs = records_of a.code.now in
+    let cls = class_in a.table.now in
+    c.loop-i.i
+    + bad_step c.record_bad.result (arg_of_class c.class_in-class.result c.get-r.result) a.arity c.loop-i.last (a.end - (c.loop-i.i + 1))
+    (bad_from cls a.arity (slice (c.loop-i.i + 1) a.end rs))
+    ≡ a.start + bad_at cls a.arity (slice a.start a.end rs)
+bad c =
+    let a = c.args in
+    let step =
+    bad-step (class_in a.table.now) a.arity (records_of a.code.now) c.loop-i.i a.end c.loop-i.last _ _
+    c.loop-i-test.true (search rules) c.get-r.ensures c.class_in-class.ensures in
+    rw (step, ← c.record_bad.ensures) c c.loop-i.invariant.1
+
+turn : (c : After-arg_of_class-a)
+    → 
+    let a = c.args in
+    let rs = records_of a.code.now in
+    let cls = class_in a.table.now in
+    c.loop-i.i
+    + bad_step false c.arg_of_class-a.result a.arity c.loop-i.last (a.end - (c.loop-i.i + 1)) (bad_from cls a.arity (slice (c.loop-i.i + 1) a.end rs))
+    ≡ a.start + bad_at cls a.arity (slice a.start a.end rs)
+turn c = rw (c.if-record_bad.false, ← c.arg_of_class-a.ensures) at (bad c)
+
+pub loop-i-init : goal.loop-i-init
+loop-i-init c = let a = c.args in
+    (search rules, omega (arith, bad-whole (class_in a.table.now) a.arity (slice a.start a.end (records_of a.code.now))))
+
+pub returns-then-record_bad : goal.returns-then-record_bad
+returns-then-record_bad c = omega (arith, rw c.if-record_bad.true at (bad (goal.at.returns-then-record_bad c).After-record_bad))
+
+pub returns-in_default : goal.returns-in_default
+returns-in_default c = omega (arith, rw c.in_default.is at (turn (goal.at.returns-in_default c).After-arg_of_class-a))
+
+pub returns-then-register_bad : goal.returns-then-register_bad
+returns-then-register_bad c = omega (arith, rw (c.in-ArgedHead-a.is, ← c.register_bad.ensures, c.if-register_bad.true) at (turn (goal.at.returns-then-register_bad c).After-arg_of_class-a))
+
+pub loop-i-preserved : goal.loop-i-preserved
+loop-i-preserved c = let here = turn (goal.at.loop-i-preserved c).After-arg_of_class-a in
+    ⊎_elim (λ w. rw w.5 (search rules, omega (arith, rw (w.1.given.1, ← w.3.ensures, w.4.left) at here)))
+    (λ w.
+    rw w.1
+    (search rules, ⊎_elim (λ e. omega (arith, rw e at here)) (λ e. omega (arith, rw e at here)) (read-over c.arg_of_class-a.result c.in-ArgedHead.keys1 w.0.keys2)))
+    c.in-ArgedHead-a.branch
+
+pub returns : goal.returns
+returns c = let a = c.args in
+    omega (arith, c.loop-i.invariant, c.loop-i-test.false, bad-end (class_in a.table.now) a.arity (records_of a.code.now) _ _ c.loop-i.last c.loop-i-test.false)

@@ -1,0 +1,14 @@
+use mathlib.Core.Path.{◌≡◌, sym}
+use Prim.Native.Nat.{◌-◌}
+use native.Mathlib.Omega.{arith}
+use lib.ListN.{length}
+use Rattle.records.specs.Records.{records_of}
+use Rattle.records.proofs.Run.{Run, run-start, run_more, run_end}
+use borrow.Author.Rules.{rules}
+use Rattle.records.proofs.put_run.Given as goal
+
+abbrev pub invariant-loop-i : goal.invariant-loop-i
+invariant-loop-i l = (l.n ≡ length (records_of l.run)) × Run l.initial.index l.at (records_of l.run) l.index l.i
+
+abbrev pub decreases-loop-i : goal.decreases-loop-i
+decreases-loop-i l = l.n - l.i

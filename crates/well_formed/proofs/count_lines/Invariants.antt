@@ -1,0 +1,16 @@
+use mathlib.Core.Path.{◌≡◌, refl, ap, ◌∙◌}
+use Prim.Native.Nat.{ℕ, ◌+◌, ◌-◌, ◌≤◌}
+use native.Mathlib.Omega.{arith}
+use borrow.Author.Rules.{rules}
+use lib.ListN.{length}
+use lib.Seq.{slice, slice_empty}
+use Rattle.records.specs.Records.{records_of}
+use Rattle.indexing.specs.Reading.{parse}
+use Rattle.well_formed.proofs.Marking.{lines_more}
+use Rattle.well_formed.proofs.count_lines.Given as goal
+
+abbrev pub invariant-loop-i : goal.invariant-loop-i
+invariant-loop-i l = (l.i ≤ l.count) × (l.lines + l.i ≤ l.count) × (l.lines ≡ length (parse (slice l.i l.count (records_of l.index))))
+
+abbrev pub decreases-loop-i : goal.decreases-loop-i
+decreases-loop-i l = l.i

@@ -1,0 +1,16 @@
+-- Number 12: marks, lines and the pass together. Assumes nothing.
+use mathlib.Core.Path.{◌∙◌}
+use Prim.Native.Nat.{◌-◌}
+use native.Mathlib.Omega.{arith}
+use borrow.Author.Rules.{rules}
+use lib.ListN.{length, take}
+use Rattle.records.specs.Records.{records_of}
+use Rattle.well_formed.proofs.Marking.{answer}
+use Rattle.well_formed.proofs.formed_with.Goals as goal
+
+pub returns : goal.returns
+returns c =
+    let a = c.args in
+    c.check_records.ensures
+    ∙ answer a.arity a.dynamic c.mark_starts.new.marks a.starts.now (length a.marks.now - 1) _ (take a.count (records_of a.index.now))
+    c.mark_starts.ensures c.requires.starts_value.0 (omega (arith, c.requires.starts_value.1)) c.requires.arity_bound c.count_lines-total.ensures

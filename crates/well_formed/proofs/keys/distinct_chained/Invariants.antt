@@ -1,0 +1,16 @@
+use mathlib.Core.Path.{◌≡◌, refl, sym, ◌∙◌}
+use Prim.Native.Nat.{◌-◌, ◌≤◌}
+use native.Mathlib.Omega.{arith}
+use borrow.Author.Rules.{rules}
+use lib.ListN.{length}
+use Rattle.records.specs.Records.{records_of}
+use Rattle.well_formed.specs.Chains.{bucket_of}
+use Rattle.well_formed.proofs.ChainLaws.{ReadFrom, read_none, read_behind, read_more, read_twice}
+use Rattle.well_formed.proofs.keys.distinct_chained.Given as goal
+
+abbrev pub invariant-loop-i : goal.invariant-loop-i
+invariant-loop-i l = (l.from ≤ l.i) × (l.i ≤ l.to) × (length l.heads ≡ length l.initial.heads) × (length l.links ≡ length l.initial.links)
+    × ReadFrom (records_of l.index) l.to l.heads l.links l.i
+
+abbrev pub decreases-loop-i : goal.decreases-loop-i
+decreases-loop-i l = l.i

@@ -1,0 +1,6 @@
+-- The entry is read, and its fields compared. Assumes nothing.
+use borrow.Author.Rules.{rules}
+use Rattle.well_formed.proofs.keys.key_at.Goals as goal
+
+pub returns : goal.returns
+returns c = rw (← c.get-q.ensures) c.same_fields.ensures

@@ -1,0 +1,14 @@
+use mathlib.Core.Path.{◌≡◌, refl, ◌∙◌}
+use Prim.Native.Nat.{ℕ, ◌+◌, ◌-◌, ◌≤◌, ◌<◌}
+use native.Mathlib.Omega.{arith}
+use borrow.Author.Rules.{rules}
+use lib.ListN.{length, get_or, drop, length-set}
+use Rattle.well_formed.specs.Pass.{Marks}
+use Rattle.well_formed.proofs.Marking.{marks-none, marks-more, start-below}
+use Rattle.well_formed.proofs.mark_starts.Given as goal
+
+abbrev pub invariant-loop-i : goal.invariant-loop-i
+invariant-loop-i l = (length l.marks ≡ length l.initial.marks) × (l.i ≤ length l.starts) × Marks l.marks (drop l.i l.starts)
+
+abbrev pub decreases-loop-i : goal.decreases-loop-i
+decreases-loop-i l = l.i

@@ -1,0 +1,6 @@
+-- In front of an entry. Assumes nothing.
+use borrow.Author.Rules.{rules}
+use Rattle.well_formed.proofs.steps.at_entry.Goals as goal
+
+pub returns : goal.returns
+returns c = rw c.lower.ensures
