@@ -39,7 +39,7 @@ args-true m n [] r = refl
 args-true m n (t ∷ ts) r = both (le-true n (arg_of t) r.0) (both (le-true (arg_of t) m r.1) (args-true m (suc (arg_of t)) ts r.2))
 
 module _ (P : Program) (known : ℕ → Bool) (idx : Index) where
-  pointers-true : (l a : ℕ) (es : List (Entry Ptr)) → All (λ (e : Entry Ptr). GoodPtr P known e.to) es → Linked (Beyond P.arity idx l a) es es
+  pointers-true : (l a : ℕ) (es : List (Entry Ptr)) {fs : List (Entry Ptr)} → All (λ (e : Entry Ptr). GoodPtr P known e.to) es → Linked (Beyond P.arity idx l a) es fs
       → every (λ e. pointer_ok P.arity P.dynamic known idx l a e.to) es ≡ true
   pointers-true l a [] f k = refl
   pointers-true l a (e ∷ es) f (linked-cons d k) = both (go d f.0) (pointers-true l a es f.1 k)

@@ -1,0 +1,13 @@
+-- At most a million inputs are replayed, each of them a front part of the buffer. Assumes nothing.
+use mathlib.Core.Path.{◌≡◌}
+use Prim.Native.Nat.{◌-◌, ◌≤◌}
+use native.Mathlib.Omega.{arith}
+use lib.ListN.{length, length-take}
+use borrow.Author.Rules.{rules}
+use Rattle.replay_walks.proofs.replay.Goals as goal
+
+pub slice_bounds-print_walks-end : goal.slice_bounds-print_walks-end
+slice_bounds-print_walks-end c = omega (arith, rw c.in-Input.is at c.next_input-next.ensures)
+
+pub slice_bounds-print_walks-end-in-loop-n : goal.slice_bounds-print_walks-end-in-loop-n
+slice_bounds-print_walks-end-in-loop-n c = simp length-take (omega (arith, rw c.in-Input.is at c.next_input-next.ensures))

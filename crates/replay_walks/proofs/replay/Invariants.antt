@@ -1,0 +1,12 @@
+use mathlib.Core.Path.{◌≡◌}
+use Prim.Native.Nat.{◌-◌, ◌≤◌}
+use native.Mathlib.Omega.{arith}
+use lib.ListN.{length, length-take}
+use borrow.Author.Rules.{rules}
+use Rattle.replay_walks.proofs.replay.Given as goal
+
+abbrev pub invariant-loop-n : goal.invariant-loop-n
+invariant-loop-n l = (l.n ≤ 1000000) × (length l.buffer ≡ length l.initial.buffer)
+
+abbrev pub decreases-loop-n : goal.decreases-loop-n
+decreases-loop-n l = 1000000 - l.n

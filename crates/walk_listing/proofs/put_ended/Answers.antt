@@ -1,0 +1,23 @@
+-- The parts of the line, each before the one put last. Assumes nothing.
+use mathlib.Core.Path.{◌∙◌, ap}
+use Prim.Native.Nat.{◌≤◌}
+use native.Mathlib.Omega.{arith}
+use mathlib.Core.List.{[]}
+use lib.ListN.{length, drop_of_length-le}
+use Rattle.listing.specs.Text.{decimal}
+use Rattle.walk_listing.proofs.TextLaws.{ended-parts}
+use borrow.Author.Rules.{rules}
+use Rattle.walk_listing.proofs.put_ended.Goals as goal
+
+pub returns : goal.returns
+returns c =
+    let n = c.put_number-records_at.ensures in
+    let m = c.put_mark-mark_at.ensures in
+    let t = c.put_field-tables_at.ensures in
+    let k = c.put_field-count_at.ensures in
+    let l = c.put_field-line_at.ensures in
+    let w = c.put_case.ensures in
+    let g : length c.args.text.now ≤ 106 = omega (arith, c) in record {
+      upper_bound = omega (arith, n.0, m.0, t.0, k.0, l.0, w.0);
+      text_after = ended-parts c.args.e _ _ _ _ _ _ [] (n.1 ∙ ap (decimal c.args.e.records) (drop_of_length-le c.args.text.now g)) m.1 t.1 k.1 l.1 w.1;
+    }
