@@ -6,7 +6,7 @@
 #   make install        installs what make has left: PREFIX=/usr/local DESTDIR=, and LIBDIR, INCLUDEDIR, DOCDIR where they are not below PREFIX as usual
 #   make uninstall      removes what make install puts there, with the same variables
 #   make check-install  installs to temporary folders, and builds and runs an example through pkg-config and CMake
-#   make clean          removes build; target, which has the proofs, stays
+#   make clean          removes build; crates/*/out, which has the proofs, stays
 PREFIX = /usr/local
 LIBDIR = $(PREFIX)/lib
 INCLUDEDIR = $(PREFIX)/include
@@ -17,7 +17,7 @@ RT ?= rt
 VERSION := $(shell sed -n 's/^.define PODRULKA_VERSION "\(.*\)"/\1/p' include/podrulka.h)
 MINOR := $(basename $(VERSION))
 DIST = build/podrulka
-COMPILED = target/staticlib/libpodrulka.a
+COMPILED = crates/podrulka/out/libpodrulka.a
 ARCHIVE = $(DIST)/lib/libpodrulka.a
 SHARED = $(DIST)/lib/libpodrulka.so.$(VERSION)
 DOCS = $(wildcard README.md LICENSE NOTICE CHANGELOG.md docs/FORMAT.md)

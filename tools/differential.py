@@ -2,7 +2,7 @@
 """Compares the program lines with the original Rust on random inputs, record by record.
 
 Both print the index as a listing: the Rust through the oracle, lines through replay_lines, 500 inputs to a process.
-usage: python3 tools/differential.py N SEED [broken]   (needs target/bin/replay_lines, which `rt check replay_lines` makes)
+usage: python3 tools/differential.py N SEED [broken]   (needs build/bin/replay_lines, which tools/programs makes)
 With `broken` some bytes of each input are changed; the number of a refused one is that of the model in replay_lines.py.
 """
 import os, random, subprocess, sys

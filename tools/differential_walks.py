@@ -2,8 +2,8 @@
 """Compares the program walks with the original Rust and with the model on random inputs of five calls, answer by answer and record by record.
 
 walks prints through replay_walks, 200 inputs to a process, two processes at a time.
-usage: python3 tools/differential_walks.py N SEED [limited|broken] [model]   (needs target/bin/replay_walks, which `rt check replay_walks` makes)
-       python3 tools/differential_walks.py limits   (needs target/bin/walks: a few inputs at the ends of document 01's ranges)
+usage: python3 tools/differential_walks.py N SEED [limited|broken] [model]   (needs build/bin/replay_walks, which tools/programs makes)
+       python3 tools/differential_walks.py limits   (needs build/bin/walks: a few inputs at the ends of document 01's ranges)
 Plain: room for every expansion, everything from the oracle. limited: capacities near what the calls need, from the model,
 and from the oracle what the oracle can say. broken: damaged inputs, calls and handed-in indexes, from the model.
 With `model` no Rattle program runs: the oracle against the model."""
