@@ -22,22 +22,6 @@
 #include "input.h"
 #include <string.h>
 
-struct record get(const uint8_t *at) {
-    struct record r = { at[0], at[1], 0, 0, 0 };
-    for (int i = 0; i < 2; i++) r.half = (uint16_t)(r.half | at[2 + i] << 8 * i);
-    for (int i = 0; i < 4; i++) r.word |= (uint32_t)at[4 + i] << 8 * i;
-    for (int i = 0; i < 8; i++) r.bits |= (uint64_t)at[8 + i] << 8 * i;
-    return r;
-}
-
-void put(uint8_t *at, struct record r) {
-    at[0] = r.kind;
-    at[1] = r.sub;
-    for (int i = 0; i < 2; i++) at[2 + i] = (uint8_t)(r.half >> 8 * i);
-    for (int i = 0; i < 4; i++) at[4 + i] = (uint8_t)(r.word >> 8 * i);
-    for (int i = 0; i < 8; i++) at[8 + i] = (uint8_t)(r.bits >> 8 * i);
-}
-
 static const uint16_t halves[] = { 0, 4, 5, 255, 256, 257, 65535, 32768 };
 static const uint8_t subs[] = { 1, 2, 3, 4, 5, 8, 16, 32, 64, 128, 255, 6, 129, 130, 252, 7 };
 static const uint64_t large[] = { 256, 1 << 16, 0x80000000, 0xffffffff, 0x100000001, UINT64_MAX };
@@ -152,11 +136,12 @@ void take_apart(const uint8_t *data, size_t size, struct input *in) {
     if (in->calls_len == 0) in->arguments[in->calls_len++] = 0;
 }
 
-static struct record argument(const struct input *in, const uint8_t *item, const uint8_t *keys, size_t a) {
+static struct record argument(const uint8_t *item, const struct program *p, bool checked, uint32_t a) {
     struct record r = { 0, item[0] & 7, 0, 0, bits(item[2]) };
     if (r.sub == 6) {
-        static const struct record unbound;
-        r = keys ? get(keys + RECORD * (item[1] % in->starts_len * in->arity + a)) : unbound;
+        struct key k = { 0, 0, 0 };
+        if (checked) k = clause_key(p, item[1] % p->starts_len, a);
+        r.sub = (uint8_t)k.sort, r.half = (uint16_t)k.arity, r.bits = k.bits;
     } else {
         if (r.sub == 7) r.sub = item[1];
         if (r.sub == PODRULKA_STRUCTURE) r.half = half(item[3], 4);
@@ -171,11 +156,11 @@ static struct record argument(const struct input *in, const uint8_t *item, const
     return r;
 }
 
-size_t make_call(const struct input *in, size_t k, const uint8_t *keys, uint8_t *call) {
+size_t make_call(const struct input *in, size_t k, const struct program *p, bool checked, uint8_t *call) {
     static const int change[] = { 0, -1, 1, -8, 8, -16, 16, -15, 15 };
     size_t n = in->arity <= PODRULKA_MAX_ARITY ? in->arity : PODRULKA_MAX_ARITY;
     memset(call, 0, RECORD * (PODRULKA_MAX_ARITY + 2));
-    for (size_t a = 0; a < in->arguments[k] && a < n; a++) put(call + RECORD * a, argument(in, in->calls[k][a], keys, a));
+    for (size_t a = 0; a < in->arguments[k] && a < n; a++) put(call + RECORD * a, argument(in->calls[k][a], p, checked, (uint32_t)a + 1));
     long len = (long)n * RECORD;
     if (k == in->calls_len - 1 && in->head[AT_CALL_LEN] <= 8) len += change[in->head[AT_CALL_LEN]];
     return len < 0 ? 0 : (size_t)len;
@@ -195,9 +180,6 @@ size_t out_length(const struct input *in) {
     if (v >= 240) return n >= v - 239 ? n - (v - 239) : 0;
     return n + v % 128;
 }
-
-/* the records of a buffer that are used */
-static size_t capacity(size_t index_len) { return index_len / RECORD < PODRULKA_MAX_INDEX ? index_len / RECORD : PODRULKA_MAX_INDEX; }
 
 size_t claimed_count(const struct input *in, size_t count, size_t index_len) {
     size_t v = in->head[AT_COUNT];

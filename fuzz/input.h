@@ -2,29 +2,7 @@
 #ifndef INPUT_H
 #define INPUT_H
 
-#include <podrulka.h>
-#include <stdbool.h>
-
-enum { RECORD = PODRULKA_RECORD };
-
-struct record {
-    uint8_t kind, sub;
-    uint16_t half;
-    uint32_t word;
-    uint64_t bits;
-};
-
-struct record get(const uint8_t *at);
-void put(uint8_t *at, struct record r);
-
-/* what every call is handed alike */
-struct program {
-    const uint8_t *code;
-    size_t code_len;
-    const uint32_t *starts;
-    size_t starts_len;
-    uint32_t arity, mask, flags;
-};
+#include "plain.h"
 
 enum {
     HEAD = 16,
@@ -62,9 +40,8 @@ struct input {
 
 void take_apart(const uint8_t *data, size_t size, struct input *in);
 
-/* the bytes of call k; its length is given back, at most 34 records are written. keys: the clauses' keys as arguments of calls (restated.h), NULL
- * if the code is refused */
-size_t make_call(const struct input *in, size_t k, const uint8_t *keys, uint8_t *call);
+/* the bytes of call k; its length is given back, at most 34 records are written */
+size_t make_call(const struct input *in, size_t k, const struct program *p, bool checked, uint8_t *call);
 
 /* bytes of an index buffer, where the index that was built needs that many records */
 size_t room(const struct input *in, size_t need);

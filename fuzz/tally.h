@@ -11,7 +11,7 @@ enum call_kind { BUILD, WALK_BUILT, WALK_HANDED_IN, WITNESS, SIZE, LOCATE, LOCAT
 /* the subjects of features; each has 64 values */
 enum feature {
     F_NUMBER, F_CASE = F_NUMBER + CALL_KINDS, F_TABLES, F_GROWN, F_LINES, F_FLAGS, F_PAIRS, F_ENTRIES, F_TAGS, F_SELECTED, F_AGREEING,
-    F_UNSTORED, F_ARGUMENT, F_SIZE, F_SIZED, F_FAULT, FEATURES
+    F_UNSTORED, F_ARGUMENT, F_SIZE, F_FAULT, FEATURES
 };
 
 /* an input has this feature */

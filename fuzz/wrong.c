@@ -1,6 +1,6 @@
 /* Wrong libraries: the archive's functions with one fault each, by the number WRONG (linked with --wrap). fuzz/wrong expects target.c to
  * notice every one, the last two under memcheck. */
-#include "input.h"
+#include "plain.h"
 #include <string.h>
 
 enum {
@@ -12,7 +12,7 @@ enum {
     SIZE_ONE_TOO_MANY, SIZE_CUT_AT_LIMIT, SIZE_REFUSES_9, SIZE_WITHOUT_DEAD_TABLES, SIZE_READS_NO_MASK, SIZE_NOT_SHORTENED,
     LOCATE_RETURNS_NUMBER, LOCATE_REFUSES_C_0, LOCATE_READS_NO_C, LOCATE_NAMES_NEXT_CLAUSE, LOCATE_COUNTS_IN_CLAUSE, LOCATE_NAMES_START,
     LOCATE_NAMES_FIRST_OF_5, LOCATE_NAMES_LAST_OF_8, LOCATE_NAMES_LAST_CLAUSE, LOCATE_LEAVES_PLACES, LOCATE_NOT_SHORTENED,
-    BUILD_CHANGES_A_TAG, WALK_COUNTS_A_TABLE_LESS, WALK_LOOKS_BEYOND_COUNT, WALK_LOOKS_AT_OUT
+    WALK_LOOKS_BEYOND_COUNT, WALK_LOOKS_AT_OUT
 };
 
 #define COMMON const uint8_t *code, size_t code_len, const uint32_t *starts, size_t starts_len, uint32_t arity, uint32_t mask, uint32_t flags
@@ -42,7 +42,6 @@ uint32_t __wrap_podrulka_build(COMMON, uint64_t c, uint8_t *index, size_t index_
         return result[0] = 9, result[1] = result[2] = 0, 9;
     case CODE_READ_PAST_END: if (!n) looked_at += code[code_len]; break;
     case INDEX_WRITTEN_BEFORE_BEGIN: if (!n) index[-1] ^= 1; break;
-    case BUILD_CHANGES_A_TAG: if (!n && !(flags & PODRULKA_DYNAMIC)) index[(full[1] - 1) * RECORD + 1] = 2; break; /* the last record, an offset: Retry */
     case NUMBERS_8_AND_7_SWAPPED: if (n == 8 && result_len) return result[0] = 7, 7; break;
     default: break;
     }
@@ -66,7 +65,6 @@ static uint32_t walk_wrong(uint32_t n, uint8_t *index, size_t index_len, size_t 
     case WALK_SAYS_STORED: w[5] = 0; break;
     case WALK_SAYS_UNSTORED: if (!n) w[5] = 1; break;
     case WALK_FAILS_FOR_EXTERNAL: if (!n && w[1] == PODRULKA_EXTERNAL) w[1] = PODRULKA_FAIL, w[3] = 0, out[0] = before[0]; break;
-    case WALK_COUNTS_A_TABLE_LESS: if (!n && w[4] > 1) w[4]--; break;
     case WALK_NAMES_ANOTHER_LINE: if (!n && w[2] > 1) w[2]--; break;
     default: break;
     }
