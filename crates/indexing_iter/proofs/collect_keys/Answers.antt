@@ -66,23 +66,8 @@ bounds-bits-at c = let w = rw c.in-ArgedHead-a.is at (turn (goal.at.bounds-bits-
 pub loop-i-preserved : goal.loop-i-preserved
 loop-i-preserved c =
     let l = c.loop-i in
-    ⊎_elim
-    (λ w.
-    let n = w.1.given.0.0 - 1 in
-    let k = rw w.1.given.1 at (turn (goal.at.loop-i-preserved c).After-extract_index_arg-a) in
-    let h : c.in-ArgedHead-a.heads ≡ set l.heads n (head_of w.1.given.0.1.0) = w.5 ∙ ap (set l.heads n) w.3.ensures.0 in
-    let b : c.in-ArgedHead-a.bits ≡ set l.bits n (bits_of w.1.given.0.1.0) = w.6 ∙ ap (set l.bits n) w.4.ensures in (
-      ap length h ∙ length-set l.heads n _ ∙ l.invariant.0,
-      ap length b ∙ length-set l.bits n _ ∙ l.invariant.1,
-      filling-as c.in-ArgedHead-a.heads c.in-ArgedHead-a.bits h b k.2,
-    ))
-    (λ w.
-    let over = read-over c.extract_index_arg-a.result c.in-ArgedHead.keys1 w.0.keys2 in (
-      ap length w.1 ∙ l.invariant.0,
-      ap length w.2 ∙ l.invariant.1,
-      filling-as c.in-ArgedHead-a.heads c.in-ArgedHead-a.bits w.1 w.2 (⊎_elim (λ e. rw e at (turn (goal.at.loop-i-preserved c).After-extract_index_arg-a)) (λ e. rw e at (turn (goal.at.loop-i-preserved c).After-extract_index_arg-a)) over),
-    ))
-    c.in-ArgedHead-a.branch
+    let here = turn (goal.at.loop-i-preserved c).After-extract_index_arg-a in
+    ?
 
 pub returns : goal.returns
 returns c =

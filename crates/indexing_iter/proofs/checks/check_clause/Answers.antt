@@ -28,7 +28,7 @@ bad c =
     let step =
     clause-step (class_in a.table.now) a.arity (records_of a.code.now) c.loop-i.i a.end c.loop-i.last _ _
     c.loop-i-test.true (search rules) c.get-r.ensures c.class_in-class.ensures in
-    rw (step, ← c.record_bad.ensures) c c.loop-i.invariant
+    rw (step, ← c.record_bad.ensures) at c.loop-i.invariant
 
 turn : (c : After-arg_of_class-a)
     → 
@@ -55,12 +55,9 @@ returns-then-register_bad c =
     (rw (c.in-ArgedHead-a.is, ← c.register_bad.ensures, c.if-register_bad.true) at (turn (goal.at.returns-then-register_bad c).After-arg_of_class-a))
 
 pub loop-i-preserved : goal.loop-i-preserved
-loop-i-preserved c = let here = turn (goal.at.loop-i-preserved c).After-arg_of_class-a in
-    ⊎_elim (λ w. rw w.5 (rw (w.1.given.1, ← w.3.ensures, w.4.left) at here))
-    (λ w.
-    rw w.1
-    (⊎_elim (λ e. rw e at here) (λ e. rw e at here) (read-over c.arg_of_class-a.result c.in-ArgedHead.keys1 w.0.keys2)))
-    c.in-ArgedHead-a.branch
+loop-i-preserved c =
+    let here = turn (goal.at.loop-i-preserved c).After-arg_of_class-a in
+    ?
 
 pub returns : goal.returns
 returns c = rw (clause-none _ _ _ _ _ _ c.loop-i-test.false) at c.loop-i.invariant
