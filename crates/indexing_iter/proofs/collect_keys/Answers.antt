@@ -10,10 +10,10 @@ use Rattle.records.specs.Records.{records_of, zero_rec}
 use Rattle.indexing_iter.specs.Keys.{bits_of}
 use Rattle.indexing_iter.specs.Rows.{head_of}
 use Rattle.indexing_iter.proofs.Table.{class_in}
-use Rattle.indexing_iter.proofs.Parts.{slice-step, slice-done, read-over}
+use Rattle.indexing_iter.proofs.Parts.{slice-step, slice-done}
 use Rattle.indexing_iter.proofs.KeyLaws.{known-within}
 use Rattle.indexing_iter.proofs.FillLaws.{collected, collected-cleared, Filling, FillingStep, filling-start, filling_step, filling-end, filling-as}
-use Rattle.indexing_iter.proofs.collect_keys.Goals.{After-extract_index_arg-a}
+use Rattle.indexing_iter.proofs.collect_keys.Goals.{After-extract_index_arg-a, in-ArgedHead-a, in_default-a}
 use Rattle.indexing_iter.proofs.collect_keys.Goals as goal
 
 -- in a turn: what the record at i says of the lists
@@ -66,23 +66,25 @@ bounds-bits-at c = let w = rw c.in-ArgedHead-a.is at (turn (goal.at.bounds-bits-
 pub loop-i-preserved : goal.loop-i-preserved
 loop-i-preserved c =
     let l = c.loop-i in
-    ⊎_elim
-    (λ w.
-    let n = w.1.given.0.0 - 1 in
-    let k = rw w.1.given.1 at (turn (goal.at.loop-i-preserved c).After-extract_index_arg-a) in
-    let h : c.in-ArgedHead-a.heads ≡ set l.heads n (head_of w.1.given.0.1.0) = w.5 ∙ ap (set l.heads n) w.3.ensures.0 in
-    let b : c.in-ArgedHead-a.bits ≡ set l.bits n (bits_of w.1.given.0.1.0) = w.6 ∙ ap (set l.bits n) w.4.ensures in (
-      ap length h ∙ length-set l.heads n _ ∙ l.invariant.0,
-      ap length b ∙ length-set l.bits n _ ∙ l.invariant.1,
-      filling-as c.in-ArgedHead-a.heads c.in-ArgedHead-a.bits h b k.2,
-    ))
-    (λ w.
-    let over = read-over c.extract_index_arg-a.result c.in-ArgedHead.keys1 w.0.keys2 in (
-      ap length w.1 ∙ l.invariant.0,
-      ap length w.2 ∙ l.invariant.1,
-      filling-as c.in-ArgedHead-a.heads c.in-ArgedHead-a.bits w.1 w.2 (⊎_elim (λ e. rw e at (turn (goal.at.loop-i-preserved c).After-extract_index_arg-a)) (λ e. rw e at (turn (goal.at.loop-i-preserved c).After-extract_index_arg-a)) over),
-    ))
-    c.in-ArgedHead-a.branch
+    let here = turn (goal.at.loop-i-preserved c).After-extract_index_arg-a in
+    elim c.match-a-2.branch [
+      in-ArgedHead-a w ↦
+      let n = w.in-ArgedHead-a.reg - 1 in
+      let k = rw w.in-ArgedHead-a.is at here in
+      let h : c.match-a-2.heads ≡ set l.heads n (head_of w.in-ArgedHead-a.key) = w.heads-is ∙ ap (set l.heads n) w.head_of.ensures.0 in
+      let b : c.match-a-2.bits ≡ set l.bits n (bits_of w.in-ArgedHead-a.key) = w.bits-is ∙ ap (set l.bits n) w.bits_of.ensures in (
+        ap length h ∙ length-set l.heads n _ ∙ l.invariant.0,
+        ap length b ∙ length-set l.bits n _ ∙ l.invariant.1,
+        filling-as c.match-a-2.heads c.match-a-2.bits h b k.2,
+      )
+    | in_default-a w ↦
+      (ap length w.heads-is ∙ l.invariant.0,
+      ap length w.bits-is ∙ l.invariant.1,
+      filling-as c.match-a-2.heads c.match-a-2.bits w.heads-is w.bits-is
+      (⊎_elim (λ v. absurd (w.in_default-a.not-ArgedHead v.0 v.1 v.2))
+      (λ v. ⊎_elim (λ e. rw e at here) (λ e. rw e at here) v)
+      c.in-ArgedHead.is))
+    ]
 
 pub returns : goal.returns
 returns c =

@@ -7,9 +7,9 @@ use mathlib.Core.Logic.{⊎_elim}
 use lib.Seq.{slice}
 use Rattle.records.specs.Records.{records_of}
 use Rattle.indexing_iter.specs.Keys.{key_in, key_step}
-use Rattle.indexing_iter.proofs.Parts.{slice-step, slice-done, read-over}
+use Rattle.indexing_iter.proofs.Parts.{slice-step, slice-done}
 use Rattle.indexing_iter.proofs.Table.{class_in}
-use Rattle.indexing_iter.proofs.key_by.Goals.{After-extract_index_arg-a}
+use Rattle.indexing_iter.proofs.key_by.Goals.{After-extract_index_arg-a, in-ArgedHead-a+else-reg-j, in_default-a}
 use Rattle.indexing_iter.proofs.key_by.Goals as goal
 
 -- in a turn: what the record at i says, and the key of the records after it, give the key
@@ -30,10 +30,15 @@ pub returns-then-reg-j : goal.returns-then-reg-j
 returns-then-reg-j c = rw (c.in-ArgedHead-a.is, eq-eqb _ _ c.if-reg-j.true) at (turn (goal.at.returns-then-reg-j c).After-extract_index_arg-a)
 
 pub loop-i-preserved : goal.loop-i-preserved
-loop-i-preserved c = let here = turn (goal.at.loop-i-preserved c).After-extract_index_arg-a in
-    ⊎_elim (λ w. rw (w.1.given.1, ne_eqb _ _ w.3.left) at here)
-    (λ w. ⊎_elim (λ e. rw e at here) (λ e. rw e at here) (read-over c.extract_index_arg-a.result c.in-ArgedHead.keys1 w.keys2))
-    c.in-ArgedHead-a.branch
+loop-i-preserved c =
+    let here = turn (goal.at.loop-i-preserved c).After-extract_index_arg-a in
+    elim c.match-a-2.branch [
+      in-ArgedHead-a+else-reg-j w ↦ rw (w.in-ArgedHead-a.is, ne_eqb _ _ w.if-reg-j.false) at here
+    | in_default-a w ↦ 
+      ⊎_elim (λ v. absurd (w.in_default-a.not-ArgedHead v.0 v.1 v.2))
+      (λ v. ⊎_elim (λ e. rw e at here) (λ e. rw e at here) v)
+      c.in-ArgedHead.is
+    ]
 
 pub returns : goal.returns
 unfolding key_in

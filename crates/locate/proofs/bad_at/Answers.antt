@@ -10,9 +10,8 @@ use Rattle.records.specs.Records.{records_of}
 use Rattle.indexing_iter.specs.Classes.{arg_of_class}
 use Rattle.indexing_iter.specs.Faults.{bad_at}
 use Rattle.indexing_iter.proofs.Table.{class_in}
-use Rattle.indexing_iter.proofs.Parts.{read-over}
 use Rattle.locate.proofs.LocateLaws.{bad_from, bad_step, bad-whole, bad-step, bad-end}
-use Rattle.locate.proofs.bad_at.Goals.{After-arg_of_class-a, After-record_bad}
+use Rattle.locate.proofs.bad_at.Goals.{After-arg_of_class-a, After-record_bad, in-ArgedHead-a+else-register_bad, in_default-a}
 use Rattle.locate.proofs.bad_at.Goals as goal
 
 -- in a turn: the record at i, and then those after it
@@ -30,7 +29,7 @@ bad c =
     let step =
     bad-step (class_in a.table.now) a.arity (records_of a.code.now) c.loop-i.i a.end c.loop-i.last _ _
     c.loop-i-test.true (search rules) c.get-r.ensures c.class_in-class.ensures in
-    rw (step, ← c.record_bad.ensures) c c.loop-i.invariant.1
+    rw (step, ← c.record_bad.ensures) at c.loop-i.invariant.1
 
 turn : (c : After-arg_of_class-a)
     → 
@@ -40,7 +39,12 @@ turn : (c : After-arg_of_class-a)
     c.loop-i.i
     + bad_step false c.arg_of_class-a.result a.arity c.loop-i.last (a.end - (c.loop-i.i + 1)) (bad_from cls a.arity (slice (c.loop-i.i + 1) a.end rs))
     ≡ a.start + bad_at cls a.arity (slice a.start a.end rs)
-turn c = rw (c.if-record_bad.false, ← c.arg_of_class-a.ensures) at (bad c)
+turn c =
+    let a = c.args in
+    let step =
+    bad-step (class_in a.table.now) a.arity (records_of a.code.now) c.loop-i.i a.end c.loop-i.last _ _
+    c.loop-i-test.true (search rules) c.get-r.ensures c.class_in-class.ensures in
+    rw (step, ← c.record_bad.ensures, c.if-record_bad.false, ← c.arg_of_class-a.ensures) at c.loop-i.invariant.1
 
 pub loop-i-init : goal.loop-i-init
 loop-i-init c = let a = c.args in
@@ -56,12 +60,18 @@ pub returns-then-register_bad : goal.returns-then-register_bad
 returns-then-register_bad c = omega (arith, rw (c.in-ArgedHead-a.is, ← c.register_bad.ensures, c.if-register_bad.true) at (turn (goal.at.returns-then-register_bad c).After-arg_of_class-a))
 
 pub loop-i-preserved : goal.loop-i-preserved
-loop-i-preserved c = let here = turn (goal.at.loop-i-preserved c).After-arg_of_class-a in
-    ⊎_elim (λ w. rw w.5 (search rules, omega (arith, rw (w.1.given.1, ← w.3.ensures, w.4.left) at here)))
-    (λ w.
-    rw w.1
-    (search rules, ⊎_elim (λ e. omega (arith, rw e at here)) (λ e. omega (arith, rw e at here)) (read-over c.arg_of_class-a.result c.in-ArgedHead.keys1 w.0.keys2)))
-    c.in-ArgedHead-a.branch
+loop-i-preserved c =
+    let here = turn (goal.at.loop-i-preserved c).After-arg_of_class-a in
+    elim c.match-a-2.branch [
+      in-ArgedHead-a+else-register_bad w ↦
+      rw w.last-is (search rules, omega (arith, rw (w.in-ArgedHead-a.is, ← w.register_bad.ensures, w.if-register_bad.false) at here))
+    | in_default-a w ↦
+      rw w.last-is
+      (search rules,
+      ⊎_elim (λ v. absurd (w.in_default-a.not-ArgedHead v.0 v.1 v.2))
+      (λ v. ⊎_elim (λ e. omega (arith, rw e at here)) (λ e. omega (arith, rw e at here)) v)
+      c.in-ArgedHead.is)
+    ]
 
 pub returns : goal.returns
 returns c = let a = c.args in

@@ -27,7 +27,7 @@ turn c =
     let a = c.args in
     let rs = records_of a.code.now in
     let one = clauses-step rs _ _ _ _ c.loop-i-test.true c.capacity-n.ensures c.clause_end-end.ensures in
-    rw (first_step (λ l. is_open (key_in (class_in a.table.now) l a.c)) _ _ _ one, ← c.key_by.ensures, ← c.is_open.ensures) c c.loop-i.invariant
+    rw (first_step (λ l. is_open (key_in (class_in a.table.now) l a.c)) _ _ _ one, ← c.key_by.ensures, ← c.is_open.ensures) at c.loop-i.invariant
 
 pub key_by-requires : goal.key_by-requires
 key_by-requires c =

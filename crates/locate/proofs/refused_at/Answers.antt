@@ -27,7 +27,7 @@ turn c =
     let a = c.args in
     let rs = records_of a.code.now in
     let one = clauses-step rs _ _ _ _ c.loop-i-test.true c.capacity-n.ensures c.clause_end-end.ensures in
-    rw (first_step (λ l. is_refused (check_clause (class_in a.table.now) a.arity l)) _ _ _ one, ← c.check_clause-a.ensures) c c.loop-i.invariant
+    rw (first_step (λ l. is_refused (check_clause (class_in a.table.now) a.arity l)) _ _ _ one, ← c.check_clause-a.ensures) at c.loop-i.invariant
 
 pub check_clause-a-requires : goal.check_clause-a-requires
 check_clause-a-requires c =

@@ -3,7 +3,7 @@ use mathlib.Core.Path.{◌≡◌, ap, ◌∙◌}
 use lib.ListN.{length}
 use mathlib.Core.List.{List}
 use Prim.Native.Nat.{ℕ, ◌+◌, ◌-◌, ◌*◌}
-use borrow.Rule.Slice.PartMut.{put_mid}
+use borrow.Rule.Slice.PartMut.{put_mid, same_len_mid}
 use Rattle.records.specs.Records.{records_of}
 use native.Mathlib.Omega.{arith}
 use Rattle.records.proofs.Laws.{room, length-encode_rec, put-records_of, odd-put, wrote}
@@ -26,7 +26,7 @@ returns c =
     let k : ℕ = 16 * at + 16 - 16 * at in
     let q : k ≡ 16 = omega arith in
     let e = c.store.ensures in
-    wrote b _ _ (same_length c)
+    wrote b _ _ (same_len_mid (16 * at) k b c.store.new.s c.store.auto.s)
     (ap (λ (y : List ℕ). records_of (put_mid (16 * at) k b y)) e
-    ∙ put-records_of b at k c.args.r c.requires q (omega (arith, c.well-formed)) (omega (arith, c.well-formed)) (omega (arith, c.well-formed)))
+    ∙ put-records_of b at k c.args.r c.requires q (omega arith) (omega arith) (omega arith))
     (odd-put b c.store.new.s at k c.requires q (ap length e ∙ length-encode_rec c.args.r))

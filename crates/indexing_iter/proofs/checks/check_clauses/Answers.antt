@@ -23,7 +23,7 @@ unfolding check_clauses
 turn c =
     let rs = records_of c.args.code.now in
     rw (clauses-step rs _ _ _ _ c.loop-i-test.true c.capacity-n.ensures c.clause_end-end.ensures, ← c.check_clause-a.ensures)
-    c c.loop-i.invariant
+    at c.loop-i.invariant
 
 pub check_clause-a-requires : goal.check_clause-a-requires
 check_clause-a-requires c =

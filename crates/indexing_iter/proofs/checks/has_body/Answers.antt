@@ -2,12 +2,12 @@
 use Prim.Native.Nat.{◌-◌, ◌+◌}
 use mathlib.Core.Path.{◌≡◌}
 use mathlib.Core.Bool.{◌||◌}
+use mathlib.Core.Logic.{⊎_elim}
 use lib.Seq.{slice}
 use borrow.Author.Rules.{rules}
 use Rattle.records.specs.Records.{records_of}
 use Rattle.indexing_iter.specs.Checks.{is_body, has_body}
 use Rattle.indexing_iter.proofs.Table.{class_in}
-use Rattle.indexing_iter.proofs.Parts.{no_body}
 use Rattle.indexing_iter.proofs.CheckLaws.{body-step, body-none}
 use Rattle.indexing_iter.proofs.checks.has_body.Goals.{After-extract_index_arg-a}
 use Rattle.indexing_iter.proofs.checks.has_body.Goals as goal
@@ -24,13 +24,15 @@ turn c =
     rw (
       body-step (class_in a.table.now) (records_of a.code.now) _ _ c.loop-i-test.true (search rules),
       ← c.extract_index_arg-a.ensures,
-    ) c c.loop-i.invariant
+    ) at c.loop-i.invariant
 
 pub returns-in_default : goal.returns-in_default
 returns-in_default c = rw c.in_default.is at (turn (goal.at.returns-in_default c).After-extract_index_arg-a)
 
 pub loop-i-preserved : goal.loop-i-preserved
-loop-i-preserved c = rw (no_body c.extract_index_arg-a.result c.in-ArgedHead.keys1) at (turn (goal.at.loop-i-preserved c).After-extract_index_arg-a)
+loop-i-preserved c =
+    let here = turn (goal.at.loop-i-preserved c).After-extract_index_arg-a in
+    ⊎_elim (λ w. rw w.2 at here) (λ w. ⊎_elim (λ e. rw e at here) (λ e. rw e at here) w) c.in-ArgedHead.is
 
 pub returns : goal.returns
 returns c = rw (body-none _ _ _ _ c.loop-i-test.false) at c.loop-i.invariant

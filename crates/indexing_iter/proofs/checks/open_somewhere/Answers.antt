@@ -24,7 +24,7 @@ unfolding open_somewhere
 turn c =
     let rs = records_of c.args.code.now in
     let one = clauses-step rs _ _ _ _ c.loop-i-test.true c.capacity-n.ensures c.clause_end-end.ensures in
-    rw (one, ← c.key_in.ensures, ← c.is_open.ensures) c c.loop-i.invariant
+    rw (one, ← c.key_in.ensures, ← c.is_open.ensures) at c.loop-i.invariant
 
 pub key_in-requires : goal.key_in-requires
 key_in-requires c =
