@@ -9,7 +9,7 @@ overflow_sub-switch c = let a = c.args in
     omega (arith, c.switch_room-switch.ensures.by_index a.zeros.now a.zeros.now a.c 1, switch-some a.leaders.now a.heads.now a.zeros.now a.zeros.now a.settings.dynamic a.c 1)
 
 pub returns : goal.returns
-returns c = let a = c.args in
+returns c = λ bits offs tags. let a = c.args in
     omega (
       arith,
       c.seed_room-line.ensures.by_index offs tags,

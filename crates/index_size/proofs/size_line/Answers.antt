@@ -24,8 +24,8 @@ fill_columns-requires c =
       starts_value = checked a.code.now a.starts.now a.settings a.c c.requires.starts_value;
       all_known = subst (AllKnown a.starts.now) (sym o.ensures) (offsets-known a.starts.now);
       le_a = (above a.code.now a.starts.now a.settings a.c c.requires.starts_value, below a.code.now a.starts.now a.settings a.c c.requires.starts_value);
-      offs_len_bound = omega (arith, c, o.auto.starts);
-      whole_len = omega (arith, c, o.auto.starts);
+      offs_len_bound = omega (arith, c, o.auto.offs);
+      whole_len = omega (arith, c, o.auto.offs);
     }
 
 pub index_room-requires : goal.index_room-requires
@@ -33,7 +33,7 @@ index_room-requires c =
     let a = c.args in
     let f = c.fill_columns in
     record {
-      leaders_len_bound = omega (arith, c, f.auto.code);
+      leaders_len_bound = omega (arith, c, f.auto);
       sizes_value = f.ensures.sizes-are;
       c_le_arity = (below a.code.now a.starts.now a.settings a.c c.requires.starts_value, small a.code.now a.starts.now a.settings a.c c.requires.starts_value);
     }

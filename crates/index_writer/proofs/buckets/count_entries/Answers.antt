@@ -1,12 +1,12 @@
 -- `buckets::count_entries` counts the entries of a group. Assumes nothing.
 use mathlib.Core.Path.{◌≡◌, refl, sym, ◌∙◌}
-use mathlib.Core.Logic.{⊎_elim}
 use Prim.Native.Nat.{◌-◌}
 use native.Mathlib.Omega.{arith}
 use lib.ListN.{length}
 use borrow.Author.Rules.{rules}
 use Rattle.indexing.specs.Columns.{opens_bucket}
 use Rattle.index_writer.proofs.Upto.{Counted, counted_start, counted-yes, counted-no, counted-end}
+use Rattle.index_writer.proofs.buckets.count_entries.Goals.{then-opens_bucket, else-opens_bucket}
 use Rattle.index_writer.proofs.buckets.count_entries.Goals as goal
 
 pub loop-i-init : goal.loop-i-init
@@ -16,10 +16,10 @@ pub loop-i-preserved : goal.loop-i-preserved
 loop-i-preserved c =
     let e = c.opens_bucket.ensures in (
       refl,
-      ⊎_elim
-          (λ w. counted-yes _ c.loop-i.invariant.1 (omega arith) (sym e ∙ w.0.taken) w.1)
-          (λ w. counted-no _ c.loop-i.invariant.1 (omega arith) (sym e ∙ w.0.left) w.1)
-          c.if-opens_bucket.branch,
+      elim c.if-opens_bucket.branch [
+        then-opens_bucket w ↦ counted-yes _ c.loop-i.invariant.1 (omega arith) (sym e ∙ w.if-opens_bucket.true) w.k-is
+        | else-opens_bucket w ↦ counted-no _ c.loop-i.invariant.1 (omega arith) (sym e ∙ w.if-opens_bucket.false) w.k-is
+      ],
     )
 
 pub returns : goal.returns

@@ -1,11 +1,11 @@
 -- `choices::count_members` counts the clauses that clause i leads, one test a turn. Assumes nothing.
 use mathlib.Core.Path.{◌≡◌, refl, sym, ◌∙◌}
-use mathlib.Core.Logic.{⊎_elim}
 use Prim.Native.Nat.{◌-◌}
 use native.Mathlib.Omega.{arith}
 use lib.ListN.{length}
 use Rattle.indexing.specs.Columns.{member, size_of}
 use Rattle.index_writer.proofs.Upto.{Counted, counted_start, counted-yes, counted-no, counted-end}
+use Rattle.index_writer.proofs.choices.count_members.Goals.{then-in_bucket, else-in_bucket}
 use Rattle.index_writer.proofs.choices.count_members.Goals as goal
 
 pub loop-j-init : goal.loop-j-init
@@ -15,8 +15,10 @@ pub loop-j-preserved : goal.loop-j-preserved
 loop-j-preserved c =
     let e = c.in_bucket.ensures in (
       refl,
-      ⊎_elim (λ w. counted-yes _ c.loop-j.invariant.1 (omega arith) (sym e ∙ w.0.taken) w.1)
-          (λ w. counted-no _ c.loop-j.invariant.1 (omega arith) (sym e ∙ w.0.left) w.1) c.if-in_bucket.branch,
+      elim c.if-in_bucket.branch [
+        then-in_bucket w ↦ counted-yes _ c.loop-j.invariant.1 (omega arith) (sym e ∙ w.if-in_bucket.true) w.k-is
+        | else-in_bucket w ↦ counted-no _ c.loop-j.invariant.1 (omega arith) (sym e ∙ w.if-in_bucket.false) w.k-is
+      ],
     )
 
 pub returns : goal.returns

@@ -34,7 +34,7 @@ pub returns-then-in_bucket : goal.returns-then-in_bucket
 returns-then-in_bucket c =
     let a = c.args in
     let w = c.put in
-    let r = ap (λ (t : ℕ). rec_of 6 c 0 (get_or a.offs.now a.j 0) 0) c.tag-sub.ensures in
+    let r = ap (λ (t : ℕ). rec_of 6 t 0 (get_or a.offs.now a.j 0) 0) c.tag-sub.ensures in
     puts_one a.index.now w.new.index a.q (member (goal.at.returns-then-in_bucket c).Then-in_bucket) r c.requires.j_in_bounds w.ensures
 
 pub returns : goal.returns

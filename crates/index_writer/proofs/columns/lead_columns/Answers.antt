@@ -9,6 +9,6 @@ pub count_sizes-requires : goal.count_sizes-requires
 count_sizes-requires c =
     let f = c.find_leaders in
     record {
-      sizes_len = omega (arith, c.requires, f.auto.heads);
+      sizes_len = omega (arith, c.requires, f.auto.leaders);
       numbers_below = leaders-below c.args.heads.now c.args.bits.now f.new.leaders (length c.args.heads.now) f.ensures;
     }

@@ -10,10 +10,6 @@ use native.Mathlib.Omega.{arith}
 use borrow.Author.Rules.{rules}
 use Rattle.index_writer.proofs.columns.read_row.Goals as goal
 
-slice-aggregate-collect-opt-arg-index-keys-2 :
-    tie.Need-slice-aggregate-collect-opt-arg-index-keys-2
-slice-aggregate-collect-opt-arg-index-keys-2 c = search rules
-
 pub collect_opt_arg_index_keys-requires : goal.collect_opt_arg_index_keys-requires
 collect_opt_arg_index_keys-requires c =
     let o = code_ok class_of c.args.arity c.args.code.now c.args.starts.now c.requires.starts_value in

@@ -1,12 +1,12 @@
 -- `later_tables::count_open` counts the open clauses of the bucket, one test a turn. Assumes nothing.
 use mathlib.Core.Path.{◌≡◌, refl, sym, ◌∙◌}
-use mathlib.Core.Logic.{⊎_elim}
 use mathlib.Core.List.{[]}
 use Prim.Native.Nat.{◌-◌}
 use native.Mathlib.Omega.{arith}
 use lib.ListN.{length}
 use Rattle.indexing.specs.Columns.{open_member}
 use Rattle.index_writer.proofs.Upto.{Counted, counted_start, counted-yes, counted-no, counted-end}
+use Rattle.index_writer.proofs.later_tables.count_open.Goals.{then-open_member, else-open_member}
 use Rattle.index_writer.proofs.later_tables.count_open.Goals as goal
 
 pub loop-j-init : goal.loop-j-init
@@ -20,8 +20,13 @@ open_member-requires c = record {
 
 pub loop-j-preserved : goal.loop-j-preserved
 loop-j-preserved c =
-    let e = c.open_member.ensures in
-    (refl, ⊎_elim (λ w. counted-yes _ c.loop-j.invariant.1 (omega arith) (sym e ∙ w.0.taken) w.1) (λ w. counted-no _ c.loop-j.invariant.1 (omega arith) (sym e ∙ w.0.left) w.1) c.if-open_member.branch)
+    let e = c.open_member.ensures in (
+      refl,
+      elim c.if-open_member.branch [
+        then-open_member w ↦ counted-yes _ c.loop-j.invariant.1 (omega arith) (sym e ∙ w.if-open_member.true) w.k-is
+        | else-open_member w ↦ counted-no _ c.loop-j.invariant.1 (omega arith) (sym e ∙ w.if-open_member.false) w.k-is
+      ],
+    )
 
 pub returns : goal.returns
 returns c = record {

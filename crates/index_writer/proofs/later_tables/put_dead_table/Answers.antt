@@ -22,7 +22,8 @@ after-record : (c : After-put)
     → let a = c.args in
     let clauses = dead_clauses a.leaders.now a.opens.now a.offs.now a.i a.b in
     Left a.index.now a.p (rec_of 4 0 a.b 0 0 ∷ clauses) (a.p + 1) clauses c.put.new.index
-after-record c = left_one c.put.new.index _ _ (begin c) c.put.auto.index c.put.ensures
+after-record c =
+    left_one c.put.new.index _ _ (left-start c.args.index.now c.args.p _ _ refl c.requires.b_in_bounds) c.put.auto.index c.put.ensures
 
 pub put-requires : goal.put-requires
 put-requires c = left-place _ _ (begin (goal.at.put-requires c).Start)

@@ -6,7 +6,7 @@ use Rattle.index_writer.proofs.Gather.{Gathered, gather-start, gather-room, gath
 use Rattle.index_writer.proofs.later_tables.put_tables.Given as goal
 
 abbrev pub invariant-loop-t : goal.invariant-loop-t
-invariant-loop-t l = Gathered (λ l.t. table_at l.leaders l.opens l.offs l.mask l.extensible l.i (l.b + l.t)) l.k l.initial.index l.p l.t l.q l.index
+invariant-loop-t l = Gathered (λ t. table_at l.leaders l.opens l.offs l.mask l.extensible l.i (l.b + t)) l.k l.initial.index l.p l.t l.q l.index
 
 abbrev pub decreases-loop-t : goal.decreases-loop-t
 decreases-loop-t l = l.k - l.t

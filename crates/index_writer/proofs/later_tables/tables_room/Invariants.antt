@@ -10,7 +10,7 @@ use Rattle.index_writer.proofs.LineLaws.{length_more}
 use Rattle.index_writer.proofs.later_tables.tables_room.Given as goal
 
 abbrev pub invariant-loop-t : goal.invariant-loop-t
-invariant-loop-t l = (l.t ≤ l.k) × (l.room ≤ 1025 * l.t) × ((offs : List ℕ) → l.room ≡ length (list_to (λ l.t. table_at l.leaders l.opens offs l.mask l.extensible l.i (l.b + l.t)) l.t))
+invariant-loop-t l = (l.t ≤ l.k) × (l.room ≤ 1025 * l.t) × ((offs : List ℕ) → l.room ≡ length (list_to (λ t. table_at l.leaders l.opens offs l.mask l.extensible l.i (l.b + t)) l.t))
 
 abbrev pub decreases-loop-t : goal.decreases-loop-t
 decreases-loop-t l = l.k - l.t

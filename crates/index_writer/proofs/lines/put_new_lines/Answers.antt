@@ -1,57 +1,51 @@
 -- `lines::put_new_lines` writes the lines of the list, the structures and the literals, each group numbered on from the one before. Assumes nothing.
 use borrow.Author.Rules.{rules}
-use mathlib.Core.Path.{ap}
+use mathlib.Core.Path.{◌≡◌, ap}
+use lib.ListN.{length}
 use mathlib.Core.List.{List, ◌++◌}
-use Prim.Native.Nat.{ℕ, ◌+◌}
-use Rattle.records.specs.declared.Rec.{Rec}
-use Rattle.indexing.specs.Columns.{list_line, group_lines, new_lines_recs}
+use Prim.Native.Nat.{ℕ, ◌+◌, ◌≤◌}
+use Rattle.records.specs.Records.{records_of}
+use Rattle.indexing_iter.specs.declared.Settings.{Settings}
+use Rattle.indexing.specs.Columns.{list_lines, lines_to, list_line, group_lines, new_lines_recs}
 use Rattle.index_writer.proofs.Left.{Left, left-start, left-room, left-run, left-all}
 use Rattle.index_writer.proofs.LineLaws.{new-parts, number-first, number-next, number-last}
-use Rattle.index_writer.proofs.lines.put_new_lines.Goals.{After-count_lines, After-put_group-q, After-put_list_line-q}
+use Rattle.index_writer.proofs.lines.put_new_lines.Goals.{After-put_group-q, After-put_list_line-q}
 use Rattle.index_writer.proofs.lines.put_new_lines.Goals as goal
 
--- the lines of the three groups
-abbrev lists : tie.After-count-lines → List Rec
-lists c =     let a = c.before.before.before.before.before.before.before.before.before.args in
-    list_line a.leaders.now a.heads.now a.opens.now a.offs.now a.tags.now a.settings a.arg a.number
+-- all is left to write: the lines of the three groups
+begin : {x y : ℕ} (leaders heads opens offs tags : List ℕ) (S : Settings) (arg number : ℕ) (b : List ℕ) (p : ℕ)
+    → x ≡ list_lines leaders heads S.dynamic → y ≡ lines_to leaders heads S.dynamic 3 (length leaders)
+    → p + length (new_lines_recs leaders heads opens offs tags S arg number) ≤ length (records_of b)
+    → Left b p (new_lines_recs leaders heads opens offs tags S arg number) p
+    (list_line leaders heads opens offs tags S arg number
+    ++ (group_lines leaders heads opens offs tags S arg 3 (number + x) ++ group_lines leaders heads opens offs tags S arg 1 (number + x + y))) b
+begin {x} leaders heads opens offs tags S arg number b p e f h =
+    left-start b p _ _
+    (new-parts leaders heads opens offs tags S arg number _ _ (ap (λ (z : ℕ). number + z) e) (ap (λ (z : ℕ). number + x + z) f)) h
 
-abbrev structures : tie.After-count-lines → List Rec
-structures c =     let ll = c.before in
-    let a = ll.before.before.before.before.before.before.before.before.args in
-    group_lines a.leaders.now a.heads.now a.opens.now a.offs.now a.tags.now a.settings a.arg 3 (a.number + ll.list-lines.result)
-
-abbrev literals : tie.After-count-lines → List Rec
-literals c =     let ll = c.before in
-    let a = ll.before.before.before.before.before.before.before.before.args in
-    group_lines a.leaders.now a.heads.now a.opens.now a.offs.now a.tags.now a.settings a.arg 1 (a.number + ll.list-lines.result + c.count-lines.result)
-
--- all lines are written once rest is written into b from place q on
-abbrev LinesLeft : tie.After-count-lines → ℕ → List Rec → List ℕ → Type 0
-LinesLeft c q rest b =     let a = c.before.before.before.before.before.before.before.before.before.args in
-    Left a.index.now a.p (new_lines_recs a.leaders.now a.heads.now a.opens.now a.offs.now a.tags.now a.settings a.arg a.number) q rest b
-
-begin : (c : After-count_lines)
-    → let a = c.args in
-    LinesLeft c a.p (lists c ++ (structures c ++ literals c)) a.index.now
-begin c =
-    let a = c.args in
-    left-start a.index.now a.p _ _
-    (new-parts a.leaders.now a.heads.now a.opens.now a.offs.now a.tags.now a.settings a.arg a.number _ _
-    (ap (λ (x : ℕ). a.number + x) c.list_lines.ensures.value)
-    (ap (λ (x : ℕ). a.number + c.list_lines.result + x) c.count_lines.ensures.value))
-    c.requires.number_in_bounds
-
+-- the list's line is written
 after-lists : (c : After-put_list_line-q)
-    → 
-    LinesLeft c c.put_list_line-q.result (structures c ++ literals c) c.put_list_line-q.new.index
-after-lists c =     let w = c.put_list_line-q in
-    left-run w.new.index w.result (lists c) (structures c ++ literals c) (begin c) w.ensures.0 w.auto.index w.ensures.1
+    → let a = c.args in
+    let x = c.list_lines.result in
+    let y = c.count_lines.result in
+    Left a.index.now a.p (new_lines_recs a.leaders.now a.heads.now a.opens.now a.offs.now a.tags.now a.settings a.arg a.number) c.put_list_line-q.result
+    (group_lines a.leaders.now a.heads.now a.opens.now a.offs.now a.tags.now a.settings a.arg 3 (a.number + x) ++ group_lines a.leaders.now a.heads.now a.opens.now a.offs.now a.tags.now a.settings a.arg 1 (a.number + x + y)) c.put_list_line-q.new.index
+after-lists c =
+    let w = c.put_list_line-q in
+    left-run w.new.index w.result _ _
+    (begin _ _ _ _ _ _ _ _ c.args.index.now c.args.p c.list_lines.ensures.value c.count_lines.ensures.value c.requires.number_in_bounds)
+    w.ensures.0 w.auto.index w.ensures.1
 
+-- and those of the structures
 after-structures : (c : After-put_group-q)
-    → 
-    LinesLeft c c.put_group-q.result (literals c) c.put_group-q.new.index
-after-structures c =     let w = c.put_group-q in
-    left-run w.new.index w.result (structures c) (literals c) (after-lists c) w.ensures.0 w.auto.index w.ensures.1
+    → let a = c.args in
+    let x = c.list_lines.result in
+    let y = c.count_lines.result in
+    Left a.index.now a.p (new_lines_recs a.leaders.now a.heads.now a.opens.now a.offs.now a.tags.now a.settings a.arg a.number) c.put_list_line-q.result
+    (group_lines a.leaders.now a.heads.now a.opens.now a.offs.now a.tags.now a.settings a.arg 3 (a.number + x) ++ group_lines a.leaders.now a.heads.now a.opens.now a.offs.now a.tags.now a.settings a.arg 1 (a.number + x + y)) c.put_list_line-q.new.index
+    → Left a.index.now a.p (new_lines_recs a.leaders.now a.heads.now a.opens.now a.offs.now a.tags.now a.settings a.arg a.number) c.put_group-q.result
+    (group_lines a.leaders.now a.heads.now a.opens.now a.offs.now a.tags.now a.settings a.arg 1 (a.number + x + y)) c.put_group-q.new.index
+after-structures c L = let w = c.put_group-q in left-run w.new.index w.result _ _ L w.ensures.0 w.auto.index w.ensures.1
 
 pub put_list_line-q-requires : goal.put_list_line-q-requires
 put_list_line-q-requires c =
@@ -60,7 +54,8 @@ put_list_line-q-requires c =
       leaders_len_bound = c.requires.leaders_len_bound;
       sizes_value = c.requires.sizes_value;
       arg_le_arity = (n.1, n.2, number-first n.3);
-      number_in_bounds = left-room (lists c) (structures c ++ literals c) (begin (goal.at.put_list_line-q-requires c).After-count_lines);
+      number_in_bounds = left-room _ _
+      (begin _ _ _ _ _ _ _ _ c.args.index.now c.args.p c.list_lines.ensures.value c.count_lines.ensures.value c.requires.number_in_bounds);
     }
 
 pub put_group-q-requires : goal.put_group-q-requires
@@ -71,20 +66,23 @@ put_group-q-requires c =
       leaders_len_bound = c.requires.leaders_len_bound;
       sizes_value = c.requires.sizes_value;
       arg_le_arity = (n.1, n.2, small);
-      first_in_bounds = left-room (structures c) (literals c) (after-lists (goal.at.put_group-q-requires c).After-put_list_line-q);
+      first_in_bounds = left-room _ _ (after-lists (goal.at.put_group-q-requires c).After-put_list_line-q);
     }
 
 pub put_group-requires : goal.put_group-requires
 put_group-requires c =
+    let g = goal.at.put_group-requires c in
     let n = c.requires.le_arg in
     let small = number-last c.requires.leaders_len_bound.0 n.3 c.list_lines.ensures.upper_bound c.count_lines.ensures.upper_bound in
     record {
       leaders_len_bound = c.requires.leaders_len_bound;
       sizes_value = c.requires.sizes_value;
       arg_le_arity = (n.1, n.2, small);
-      first_in_bounds = (after-structures (goal.at.put_group-requires c).After-put_group-q).room;
+      first_in_bounds = (after-structures g.After-put_group-q (after-lists g.After-put_list_line-q)).room;
     }
 
 pub returns : goal.returns
-returns c = let w = c.put_group in
-    left-all w.new.index w.result _ (after-structures (goal.at.returns c).After-put_group-q) w.ensures.0 w.auto.index w.ensures.1
+returns c =
+    let g = goal.at.returns c in
+    let w = c.put_group in
+    left-all w.new.index w.result _ (after-structures g.After-put_group-q (after-lists g.After-put_list_line-q)) w.ensures.0 w.auto.index w.ensures.1

@@ -18,8 +18,9 @@ after-tables : (c : After-put_tables-q)
     → let a = c.args in
     Left a.index.now a.p (rest_of a.leaders.now a.opens.now a.offs.now a.tags.now a.settings a.arg a.i) c.put_tables-q.result
     (choices_of a.leaders.now a.opens.now a.offs.now a.tags.now a.settings a.arg a.i) c.put_tables-q.new.index
-after-tables c =     let w = c.put_tables-q in
-    left-run w.new.index w.result _ _ (begin c) w.ensures.0 w.auto.index w.ensures.1
+after-tables c =
+    let w = c.put_tables-q in
+    left-run w.new.index w.result _ _ (left-start c.args.index.now c.args.p _ _ refl c.requires.i_in_bounds) w.ensures.0 w.auto.index w.ensures.1
 
 pub put_tables-q-requires : goal.put_tables-q-requires
 put_tables-q-requires c =
