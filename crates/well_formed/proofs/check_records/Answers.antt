@@ -3,7 +3,6 @@ use mathlib.Core.Path.{◌≡◌, refl, sym, ◌∙◌}
 use Prim.Native.Nat.{◌+◌, ◌-◌, ◌≤◌, ◌<◌}
 use native.Mathlib.Omega.{arith}
 use borrow.Author.Rules.{rules}
-use borrow.Author.Tests.{not-true, not-false}
 use lib.ListN.{length}
 use lib.Seq.{slice, slice_empty}
 use Rattle.records.specs.Records.{records_of}
@@ -38,10 +37,10 @@ loop-i-init c =
     (omega arith, b.0, b.1, refl, m)
 
 pub returns-then-not-record_ok : goal.returns-then-not-record_ok
-returns-then-not-record_ok c = sym (step-refused _ _ _ _ (here (goal.at.returns-then-not-record_ok c).After-get-r) (sym c.record_ok.ensures ∙ not-true _ c.if-not-record_ok.true))
+returns-then-not-record_ok c = sym (step-refused _ _ _ _ (here (goal.at.returns-then-not-record_ok c).After-get-r) (sym c.record_ok.ensures ∙ c.if-not-record_ok.true))
 
 pub returns-then-not-keys_ok : goal.returns-then-not-keys_ok
-returns-then-not-keys_ok c = sym (keys-refused _ _ _ _ (here (goal.at.returns-then-not-keys_ok c).After-get-r) (sym c.keys_ok.ensures ∙ not-true _ c.if-not-keys_ok.true))
+returns-then-not-keys_ok c = sym (keys-refused _ _ _ _ (here (goal.at.returns-then-not-keys_ok c).After-get-r) (sym c.keys_ok.ensures ∙ c.if-not-keys_ok.true))
 
 pub note_line-requires : goal.note_line-requires
 note_line-requires c =
@@ -54,8 +53,8 @@ loop-i-preserved c =
     let s = c.after-s in
     let room : c.loop-i.s.lines < length c.loop-i.firsts = omega (arith, c.loop-i.invariant.1, c.loop-i.invariant.3, c.requires) in
     let low : c.loop-i.i - 1 ≤ a.count = omega (arith, c.loop-i.invariant.0) in
-    let m = met-turn _ _ _ _ (here (goal.at.loop-i-preserved c).After-get-r) s.result n.new.firsts room (sym c.record_ok.ensures ∙ not-false _ c.if-not-record_ok.false)
-    (sym c.keys_ok.ensures ∙ not-false _ c.if-not-keys_ok.false) s.ensures n.ensures in
+    let m = met-turn _ _ _ _ (here (goal.at.loop-i-preserved c).After-get-r) s.result n.new.firsts room (sym c.record_ok.ensures ∙ c.if-not-record_ok.false)
+    (sym c.keys_ok.ensures ∙ c.if-not-keys_ok.false) s.ensures n.ensures in
     let b = met-within _ _ _ _ (records_of a.index.now) a.count (c.loop-i.i - 1) s.result n.new.firsts c.requires.count_in_bounds.0 low m in
     (low, b.0, b.1, n.auto.firsts ∙ c.loop-i.invariant.3, m)
 

@@ -5,6 +5,10 @@ use Rattle.well_formed.specs.Pass.{marked}
 use borrow.Author.Rules.{rules}
 use Rattle.well_formed.proofs.forms.is_known.Goals as goal
 
+pub returns-then-at-marks : goal.returns-then-at-marks
+unfolding marked
+returns-then-at-marks c = refl
+
 pub returns : goal.returns
 unfolding marked
 returns c = rw (get_or-eq_default c.args.marks.now 0 c.if-at-marks.false)

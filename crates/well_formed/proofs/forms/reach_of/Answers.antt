@@ -12,7 +12,7 @@ unfolding reach_in
 returns-then-is_internal c =
     let a = c.args in
     let i = c.is_internal.ensures in
-    let h : a.word < 4294967296 = omega (arith, c.well-formed) in
+    let h : a.word < 4294967296 = omega arith in
     rw (pointer-int a.word (sym i ∙ c.if-is_internal.true) h, ← c.distance.ensures) c.inner_reach.ensures
 
 pub returns : goal.returns

@@ -1,7 +1,8 @@
 -- The state once a record is read, by its kind. Assumes nothing.
+use native.Mathlib.Omega.{arith}
 use Prim.Native.Nat.{ℕ}
 use Rattle.well_formed.proofs.StepLaws.{after-entry}
-use mathlib.Core.Path.{ap₂, ◌∙◌}
+use mathlib.Core.Path.{◌≡◌, ap₂, ◌∙◌}
 use Rattle.well_formed.specs.Pass.{at_entry}
 use borrow.Author.Tests.{ne_eqb}
 use Rattle.well_formed.specs.Pass.{after}
@@ -26,7 +27,7 @@ returns-in-4 c = rw c.in-4.is c.at_dead.ensures
 
 pub returns-in-5 : goal.returns-in-5
 returns-in-5 c = let a = c.args in
-    c.at_entry_lem.ensures
+    c.at_entry.ensures
     ∙ ap₂ (λ (g n : ℕ). at_entry a.s g n) c.group_by_sort.ensures c.reach_of.ensures
     ∙ after-entry _ a.r a.s _ c.in-5.is
 
@@ -36,12 +37,11 @@ returns-in-6 c = rw c.in-6.is c.at_choice.ensures
 
 pub returns-in_default : goal.returns-in_default
 unfolding after
-returns-in_default c = rw (
-      ne_eqb _ _ c.in-1.rest.0.0.0.0.0.1,
-      ne_eqb _ _ c.in-1.rest.0.0.0.0.1,
-      ne_eqb _ _ c.in-1.rest.0.0.0.1,
-      ne_eqb _ _ c.in-1.rest.0.0.1,
-      ne_eqb _ _ c.in-1.rest.0.1,
-      ne_eqb _ _ c.in-1.rest.1,
-    )
-    c.at_clause.ensures
+returns-in_default c =
+    let n1 : c.args.r.kind ≡ 1 → ⊥ = omega arith in
+    let n2 : c.args.r.kind ≡ 2 → ⊥ = omega arith in
+    let n3 : c.args.r.kind ≡ 3 → ⊥ = omega arith in
+    let n4 : c.args.r.kind ≡ 4 → ⊥ = omega arith in
+    let n5 : c.args.r.kind ≡ 5 → ⊥ = omega arith in
+    let n6 : c.args.r.kind ≡ 6 → ⊥ = omega arith in
+    rw (ne_eqb _ _ n1, ne_eqb _ _ n2, ne_eqb _ _ n3, ne_eqb _ _ n4, ne_eqb _ _ n5, ne_eqb _ _ n6) c.at_clause.ensures

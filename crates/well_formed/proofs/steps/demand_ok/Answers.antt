@@ -1,14 +1,13 @@
 -- An on-demand record, test by test. Assumes nothing.
 use mathlib.Core.Path.{sym, ◌∙◌}
-use borrow.Author.Tests.{not-false, not-true}
 use Rattle.well_formed.specs.Pass.{demand_step}
 use borrow.Author.Rules.{rules}
 use Rattle.well_formed.proofs.steps.demand_ok.Goals as goal
 
 pub returns-then-not-is_idle : goal.returns-then-not-is_idle
 unfolding demand_step
-returns-then-not-is_idle c = simp (sym c.is_idle.ensures ∙ not-true _ c.if-not-is_idle.true)
+returns-then-not-is_idle c = simp (sym c.is_idle.ensures ∙ c.if-not-is_idle.true)
 
 pub returns : goal.returns
 unfolding demand_step
-returns c = simp (sym c.is_idle.ensures ∙ not-false _ c.if-not-is_idle.false, c.table_ok.ensures)
+returns c = simp (sym c.is_idle.ensures ∙ c.if-not-is_idle.false, c.table_ok.ensures)

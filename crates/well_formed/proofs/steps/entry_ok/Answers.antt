@@ -1,14 +1,13 @@
 -- An entry, test by test. Assumes nothing.
 use mathlib.Core.Path.{sym, ◌∙◌}
-use borrow.Author.Tests.{not-false, not-true}
 use Rattle.well_formed.specs.Pass.{entry_step}
 use borrow.Author.Rules.{rules}
 use Rattle.well_formed.proofs.steps.entry_ok.Goals as goal
 
 pub returns-then-not-form_ok : goal.returns-then-not-form_ok
 unfolding entry_step
-returns-then-not-form_ok c = simp (sym c.form_ok.ensures ∙ not-true _ c.if-not-form_ok.true)
+returns-then-not-form_ok c = simp (sym c.form_ok.ensures ∙ c.if-not-form_ok.true)
 
 pub returns : goal.returns
 unfolding entry_step
-returns c = simp (sym c.form_ok.ensures ∙ not-false _ c.if-not-form_ok.false, ← c.group_by_sort.ensures)
+returns c = simp (sym c.form_ok.ensures ∙ c.if-not-form_ok.false, ← c.group_by_sort.ensures)

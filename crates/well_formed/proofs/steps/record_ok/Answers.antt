@@ -1,7 +1,8 @@
 -- A record, by its kind. Assumes nothing.
+use native.Mathlib.Omega.{arith}
 use borrow.Author.Tests.{ne_eqb}
 use Rattle.well_formed.specs.Pass.{step_ok}
-use mathlib.Core.Path.{◌∙◌}
+use mathlib.Core.Path.{◌≡◌, ◌∙◌}
 use Rattle.well_formed.proofs.StepLaws.{step_line, step-switch, step-demand, step-dead, step-entry, step-choice, step-clause}
 use borrow.Author.Rules.{rules}
 use Rattle.well_formed.proofs.steps.record_ok.Goals as goal
@@ -29,12 +30,12 @@ returns-in-7 c = c.clause_ok.ensures ∙ step-clause _ _ _ _ _ _ _ c.in-7.is
 
 pub returns-in_default : goal.returns-in_default
 unfolding step_ok
-returns-in_default c = simp (
-      ne_eqb _ _ c.in-1.rest.0.0.0.0.0.0.1,
-      ne_eqb _ _ c.in-1.rest.0.0.0.0.0.1,
-      ne_eqb _ _ c.in-1.rest.0.0.0.0.1,
-      ne_eqb _ _ c.in-1.rest.0.0.0.1,
-      ne_eqb _ _ c.in-1.rest.0.0.1,
-      ne_eqb _ _ c.in-1.rest.0.1,
-      ne_eqb _ _ c.in-1.rest.1,
-    )
+returns-in_default c =
+    let n1 : c.args.r.kind ≡ 1 → ⊥ = omega arith in
+    let n2 : c.args.r.kind ≡ 2 → ⊥ = omega arith in
+    let n3 : c.args.r.kind ≡ 3 → ⊥ = omega arith in
+    let n4 : c.args.r.kind ≡ 4 → ⊥ = omega arith in
+    let n5 : c.args.r.kind ≡ 5 → ⊥ = omega arith in
+    let n6 : c.args.r.kind ≡ 6 → ⊥ = omega arith in
+    let n7 : c.args.r.kind ≡ 7 → ⊥ = omega arith in
+    simp (ne_eqb _ _ n1, ne_eqb _ _ n2, ne_eqb _ _ n3, ne_eqb _ _ n4, ne_eqb _ _ n5, ne_eqb _ _ n6, ne_eqb _ _ n7)
