@@ -5,7 +5,6 @@ use Rattle.records.specs.Records.{records_of}
 use Rattle.indexing_iter.specs.Classes.{class_of}
 use Rattle.indexing_iter.specs.Clauses.{key_of, known}
 use mathlib.Core.Bool.{◌&&◌}
-use borrow.Author.Tests.{not-true, not-false}
 use Rattle.indexing_scan.specs.Unstored.{all_same}
 use Rattle.indexing_scan.proofs.HeldLaws.{same_step, same-done, known_at}
 use borrow.Author.Rules.{rules}

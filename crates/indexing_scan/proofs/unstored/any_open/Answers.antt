@@ -20,7 +20,7 @@ turn : (c : After-is_open)
 turn c =
     let a = c.args in
     let K = key_of class_of (records_of a.code.now) a.starts.now in
-    rw (open_step K a.a a.clauses.now c.loop-i.i (search rules), ← c.key_of-k.ensures, ← c.is_open.ensures) c c.loop-i.invariant
+    rw (open_step K a.a a.clauses.now c.loop-i.i (search rules), ← c.key_of-k.ensures, ← c.is_open.ensures) at c.loop-i.invariant
 
 pub key_of-k-requires : goal.key_of-k-requires
 key_of-k-requires c = let a = c.args in

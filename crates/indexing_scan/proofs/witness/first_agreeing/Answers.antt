@@ -29,6 +29,10 @@ turn c =     let l = c.loop-i in
     let Q = call_of a.call.now in
     rw (first_step (agree P Q) a.starts.now l.i (search rules), ← c.agrees.ensures) at l.invariant
 
+pub loop-i-init : goal.loop-i-init
+unfolding agreeing
+loop-i-init c = refl
+
 pub overflow_add-offset : goal.overflow_add-offset
 overflow_add-offset c = let a = c.args in
     let o = clause-offset class_of a.settings.arity a.code.now a.starts.now c.loop-i.i (search rules) (search rules) in
