@@ -1,12 +1,9 @@
 -- The entries of a group: those counted, with those from place i on, are all. Assumes nothing.
-use mathlib.Core.Path.{◌≡◌, sym, ◌∙◌}
+use mathlib.Core.Path.{sym, ◌∙◌}
 use mathlib.Core.Bool.{true, false}
-use Prim.Native.Nat.{◌+◌, ◌-◌, ◌≤◌}
 use native.Mathlib.Omega.{arith}
-use borrow.Author.Rules.{rules}
-use lib.Seq.{slice}
 use Rattle.records.specs.Records.{records_of}
-use Rattle.indexing_scan.specs.Places.{in_group, count_of}
+use Rattle.indexing_scan.specs.Places.{in_group}
 use Rattle.indexing_scan.proofs.Turns.{count_turn, count-end}
 use Rattle.indexing_scan.proofs.stored.count_group.Goals as goal
 use Rattle.indexing_scan.proofs.stored.count_group.Goals.{then-in_group, else-in_group}
@@ -22,8 +19,8 @@ loop-i-preserved c =
     let u = count_turn (records_of a.index.now) l.i a.to r.result (omega arith) c.requires.1 r.ensures (in_group a.g) in
     let e = sym c.in_group.ensures in
     elim c.if-in_group.branch [
-      then-in_group w ↦ let v = u true (e ∙ w.if-in_group.true) in (omega arith, omega arith, omega (arith, w.count-is), omega (arith, v, w.count-is)) |
-      else-in_group w ↦ let v = u false (e ∙ w.if-in_group.false) in (omega arith, omega arith, omega (arith, w.count-is), omega (arith, v, w.count-is))
+      | then-in_group w ↦ let v = u true (e ∙ w.if-in_group.true) in (omega arith, omega arith, omega (arith, w.count-is), omega (arith, v, w.count-is))
+      | else-in_group w ↦ let v = u false (e ∙ w.if-in_group.false) in (omega arith, omega arith, omega (arith, w.count-is), omega (arith, v, w.count-is))
     ]
 
 pub returns : goal.returns

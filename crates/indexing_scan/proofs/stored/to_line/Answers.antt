@@ -1,7 +1,7 @@
 -- The d-th line record: what is left of the way from place i on, with the places passed, is the whole. Assumes nothing.
-use mathlib.Core.Path.{◌≡◌, refl, ap, ◌∙◌}
+use mathlib.Core.Path.{refl, ap, ◌∙◌}
 use mathlib.Core.Bool.{true, false}
-use Prim.Native.Nat.{ℕ, ◌+◌, ◌-◌, ◌≤◌}
+use Prim.Native.Nat.{ℕ, ◌+◌}
 use native.Mathlib.Omega.{arith}
 use borrow.Author.Tests.{eq-eqb, ne_eqb}
 use lib.Seq.{slice}
@@ -31,8 +31,8 @@ loop-i-preserved c =
     let z = c.if-left-eq0.false in
     let f : ℕ → ℕ = λ x. through_line x (slice (l.i + 1) a.n (records_of a.index.now)) in
     elim c.if-r-eq1.branch [
-      then-r-eq1 w ↦ let v = u true z (eq-eqb _ _ w.if-r-eq1.true) in (omega arith, omega arith, omega (arith, v, ap f w.left-is)) |
-      else-r-eq1 w ↦ let v = u false z (ne_eqb _ _ w.if-r-eq1.false) in (omega arith, omega arith, omega (arith, v, ap f w.left-is))
+      | then-r-eq1 w ↦ let v = u true z (eq-eqb _ _ w.if-r-eq1.true) in (omega arith, omega arith, omega (arith, v, ap f w.left-is))
+      | else-r-eq1 w ↦ let v = u false z (ne_eqb _ _ w.if-r-eq1.false) in (omega arith, omega arith, omega (arith, v, ap f w.left-is))
     ]
 
 pub returns : goal.returns

@@ -1,6 +1,6 @@
-use Prim.Native.Nat.{◌-◌, ◌+◌}
+use Prim.Native.Nat.{◌+◌}
 use mathlib.Core.Path.{◌≡◌}
-use lib.ListN.{length, drop}
+use lib.ListN.{drop}
 use Rattle.records.specs.Records.{records_of}
 use Rattle.indexing_iter.specs.Classes.{class_of}
 use Rattle.indexing_iter.specs.Clauses.{key_of, known}
@@ -13,7 +13,7 @@ use Rattle.indexing_scan.proofs.unstored.all_same.Goals as goal
 
 -- in a turn: whether the clause at i has the key, and whether those after it have
 turn : (c : After-same_key)
-    → 
+    →
     let a = c.args in
     let K = key_of class_of (records_of a.code.now) a.starts.now in
     (c.same_key.result && all_same K a.a a.k (drop (c.loop-i.i + 1) a.clauses.now)) ≡ all_same K a.a a.k a.clauses.now

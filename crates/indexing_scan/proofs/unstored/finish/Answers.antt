@@ -11,7 +11,7 @@ use Rattle.indexing_scan.specs.Calls.{call_of}
 use Rattle.indexing_scan.specs.ByArgument.{answer_from}
 use Rattle.indexing_scan.specs.Walk.{unstored}
 use Rattle.indexing_scan.proofs.CallLaws.{call-records}
-use Rattle.indexing_scan.proofs.UnstoredLaws.{Stepped, goes_first, goes_step, goes_end, Finishing, finishing-next}
+use Rattle.indexing_scan.proofs.UnstoredLaws.{Stepped, goes_first, goes_step, goes_end, finishing-next}
 use borrow.Author.Rules.{rules}
 use Rattle.indexing_scan.proofs.unstored.finish.Goals.{After-narrow-r, in-NoTable, in-Passed, in-Bucket}
 use Rattle.indexing_scan.proofs.unstored.finish.Goals as goal
@@ -24,7 +24,7 @@ turn : (c : After-narrow-r)
     let Q = call_of a.call.now in
     Stepped P Q (answer_from P Q (a.settings.arity + 1 - a.a) a.a [] (unstored (take a.m a.clauses.now)))
     l.tables l.b l.count c.narrow-r.new.clauses c.narrow-r.result
-turn c =     let l = c.loop-b in
+turn c = let l = c.loop-b in
     let a = c.args in
     let P = program_of class_of a.settings (records_of a.code.now) a.starts.now in
     let Q = call_of a.call.now in
@@ -87,9 +87,9 @@ loop-b-preserved c =
     let on = finishing-next l.invariant c.loop-b-test.true new len in
     let t = turn (goal.at.loop-b-preserved c).After-narrow-r in
     elim c.match-r.branch [
-      in-NoTable w ↦ rw (w.count-is, w.tables-is) (on l.count l.tables (rw w.in-NoTable.is at t) (omega arith) (omega arith) (rw w.in-NoTable.is at h.offsets)) |
-      in-Passed w ↦ rw (w.count-is, w.tables-is) (on l.count (l.tables + 1) (rw w.in-Passed.is at t) (omega arith) (omega arith) (rw w.in-Passed.is at h.offsets)) |
-      in-Bucket w ↦ let e = w.in-Bucket.is in
+      | in-NoTable w ↦ rw (w.count-is, w.tables-is) (on l.count l.tables (rw w.in-NoTable.is at t) (omega arith) (omega arith) (rw w.in-NoTable.is at h.offsets))
+      | in-Passed w ↦ rw (w.count-is, w.tables-is) (on l.count (l.tables + 1) (rw w.in-Passed.is at t) (omega arith) (omega arith) (rw w.in-Passed.is at h.offsets))
+      | in-Bucket w ↦ let e = w.in-Bucket.is in
           rw (w.count-is, w.tables-is) (on w.in-Bucket.k (l.tables + 1) (rw e at t) (rw e at h.within) (omega arith) (rw e at h.offsets))
     ]
 

@@ -21,26 +21,26 @@ grouped : (c : After-keep_alike-n)
     → let a = c.args in
     Front (like_to (key_of class_of (records_of a.code.now) a.starts.now) true a.a a.q (take a.m a.clauses.now))
     c.keep_alike-n.result c.keep_alike-n.new.clauses
-grouped c =     let a = c.args in
+grouped c = let a = c.args in
     let G = like_to (key_of class_of (records_of a.code.now) a.starts.now) true a.a a.q (take a.m a.clauses.now) in
     front_kept G (drop c.keep_alike-n.result a.clauses.now) c.keep_alike-n.new.clauses c.keep_alike-n.result c.keep_alike-n.ensures.value c.keep_alike-n.ensures.clauses_after
 
 grouped-known : (c : After-keep_alike-n)
     → let a = c.args in
     every (known a.starts.now) (take c.keep_alike-n.result c.keep_alike-n.new.clauses) ≡ true
-grouped-known c =     let a = c.args in
+grouped-known c = let a = c.args in
     let K = key_of class_of (records_of a.code.now) a.starts.now in
     ap (every (known a.starts.now)) (grouped c).front ∙ known-like (known a.starts.now) K true a.a a.q (take a.m a.clauses.now) (search rules)
 
 grouped-few : (c : After-keep_alike-n) → c.keep_alike-n.result ≤ c.args.m
-grouped-few c =     let a = c.args in
+grouped-few c = let a = c.args in
     let K = key_of class_of (records_of a.code.now) a.starts.now in
     let n : length (take a.m a.clauses.now) ≡ a.m = length-take-le a.m a.clauses.now (search rules) in
     omega (arith, (grouped c).count, length-like K true a.a a.q (take a.m a.clauses.now))
 
 -- whether the group has one key
 compared : (c : After-all_same)
-    → 
+    →
     let a = c.args in
     let K = key_of class_of (records_of a.code.now) a.starts.now in
     let list = c.keep_alike-n.new.clauses in
@@ -52,7 +52,7 @@ compared c =
 
 -- the clauses with the equal key stand at the front
 picked : (c : After-keep_alike-k)
-    → 
+    →
     let a = c.args in
     Front (like_to (key_of class_of (records_of a.code.now) a.starts.now) false a.a a.q (take c.keep_alike-n.result c.keep_alike-n.new.clauses))
     c.keep_alike-k.result c.keep_alike-k.new.clauses
@@ -111,9 +111,9 @@ slice_bounds-all_same-end-2 c =
 
 pub all_same-requires : goal.all_same-requires
 all_same-requires c = record {
-      starts_value = search rules;
-      clauses_value = grouped-known (goal.at.all_same-requires c).After-keep_alike-n;
-    }
+  starts_value = search rules;
+  clauses_value = grouped-known (goal.at.all_same-requires c).After-keep_alike-n;
+}
 
 pub returns-then-all_same : goal.returns-then-all_same
 returns-then-all_same c =

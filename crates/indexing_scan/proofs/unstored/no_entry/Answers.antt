@@ -1,7 +1,6 @@
 use mathlib.Core.Path.{refl}
 use borrow.Author.Tests.{eq-eqb, ne_eqb}
 use Rattle.indexing_scan.specs.Unstored.{empty_by}
-use borrow.Author.Rules.{rules}
 use Rattle.indexing_scan.proofs.unstored.no_entry.Goals as goal
 
 pub returns-then-not-dynamic : goal.returns-then-not-dynamic

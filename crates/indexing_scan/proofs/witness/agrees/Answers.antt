@@ -1,4 +1,4 @@
-use Prim.Native.Nat.{◌+◌, ◌-◌, ◌≤◌}
+use Prim.Native.Nat.{◌+◌}
 use mathlib.Core.Path.{◌≡◌}
 use mathlib.Core.Bool.{◌&&◌}
 use native.Mathlib.Omega.{arith}
@@ -21,7 +21,7 @@ turn : (c : After-agree_at)
     let P = program_of class_of a.settings (records_of a.code.now) a.starts.now in
     let Q = call_of a.call.now in
     (c.agree_at.result && agrees_at P Q a.offset (l.a + 1)) ≡ agree P Q a.offset
-turn c =     let l = c.loop-a in
+turn c = let l = c.loop-a in
     let a = c.args in
     let P = program_of class_of a.settings (records_of a.code.now) a.starts.now in
     let Q = call_of a.call.now in
