@@ -8,7 +8,7 @@ use Rattle.indexing.proofs.Expand.{no_switch}
 use Rattle.indexing.specs.Build.{Program, later_table}
 use Rattle.indexing.specs.Lines.{Index}
 use Rattle.indexing.specs.Expand.{State}
-use Rattle.indexing_scan.proofs.Same.{Alike, skips, passes, stops, outs, gotos, act-alike, moves-alike}
+use Rattle.indexing_scan.proofs.Same.{Alike, skips, passes, stops, outs, gotos, moves-alike}
 use Rattle.indexing_scan.specs.Agree.{Call}
 use Rattle.indexing_scan.specs.ByArgument.{act, move, answer_from, walk_from}
 use Rattle.indexing_scan.specs.Walk.{Place, unstored, Move, Answer, look, Result, look_at, result}

@@ -1,8 +1,7 @@
-use borrow.Author.Tests.{not-true, not-false}
-use Prim.Native.Nat.{◌-◌, ◌+◌}
+use Prim.Native.Nat.{◌+◌}
 use mathlib.Core.Path.{◌≡◌}
 use mathlib.Core.Bool.{◌&&◌}
-use lib.ListN.{length, drop}
+use lib.ListN.{drop}
 use Rattle.records.specs.Records.{records_of, zero_rec}
 use Rattle.indexing.specs.Lists.{every}
 use Rattle.indexing_scan.specs.Calls.{argument_ok}
@@ -18,13 +17,13 @@ turn : (c : After-argument_ok)
 turn c =
     let rs = records_of c.args.call.now in
     let one = every-step argument_ok rs c.loop-i.i zero_rec (search rules) in
-    rw (one, ← c.get-r.ensures, ← c.argument_ok.ensures) c c.loop-i.invariant.1
+    rw (one, ← c.get-r.ensures, ← c.argument_ok.ensures) at c.loop-i.invariant.1
 
 pub returns-then-not-argument_ok : goal.returns-then-not-argument_ok
-returns-then-not-argument_ok c = rw (not-true c.argument_ok.result c.if-not-argument_ok.true) at (turn (goal.at.returns-then-not-argument_ok c).After-argument_ok)
+returns-then-not-argument_ok c = rw c.if-not-argument_ok.true at (turn (goal.at.returns-then-not-argument_ok c).After-argument_ok)
 
 pub loop-i-preserved : goal.loop-i-preserved
-loop-i-preserved c = (search rules, rw (not-false c.argument_ok.result c.if-not-argument_ok.false) at (turn (goal.at.loop-i-preserved c).After-argument_ok))
+loop-i-preserved c = (search rules, rw c.if-not-argument_ok.false at (turn (goal.at.loop-i-preserved c).After-argument_ok))
 
 pub returns : goal.returns
 returns c = let rs = records_of c.args.call.now in

@@ -1,13 +1,9 @@
-use borrow.Author.Tests.{not-true, not-false}
-use Prim.Native.Nat.{◌-◌, ◌+◌}
+use Prim.Native.Nat.{◌-◌}
 use mathlib.Core.Path.{◌≡◌}
-use mathlib.Core.Bool.{◌&&◌}
 use lib.ListN.{length, drop}
-use Rattle.records.specs.Records.{records_of, zero_rec}
+use Rattle.records.specs.Records.{records_of}
 use Rattle.indexing.specs.Lists.{every}
 use Rattle.indexing_scan.specs.Calls.{argument_ok}
-use Rattle.indexing_scan.proofs.CallLaws.{every-step, every-done}
-use borrow.Author.Rules.{rules}
 use Rattle.indexing_scan.proofs.calls.arguments_ok.Given as goal
 
 abbrev pub invariant-loop-i : goal.invariant-loop-i

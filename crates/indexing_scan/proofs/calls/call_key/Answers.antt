@@ -1,5 +1,4 @@
 use Rattle.indexing_scan.specs.Calls.{call_of}
-use borrow.Author.Rules.{rules}
 use Rattle.indexing_scan.proofs.calls.call_key.Goals as goal
 
 pub returns : goal.returns

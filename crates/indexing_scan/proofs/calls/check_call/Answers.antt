@@ -1,6 +1,5 @@
 use mathlib.Core.Path.{refl}
 use borrow.Author.Tests.{eq-eqb, ne_eqb}
-use borrow.Author.Rules.{rules}
 use Rattle.indexing_scan.proofs.calls.check_call.Goals as goal
 
 pub returns-then-call-arity : goal.returns-then-call-arity

@@ -1,6 +1,5 @@
 -- The choice in a switch: the entries of the group are counted, and one is found. Assumes nothing.
 use native.Mathlib.Omega.{arith}
-use borrow.Author.Rules.{rules}
 use Rattle.records.specs.Records.{records_of}
 use Rattle.indexing_scan.proofs.ChooseLaws.{ends-none, only-within, ends-only, ends-lacking, ends-equal}
 use Rattle.indexing_scan.proofs.stored.choose_entry.Goals as goal

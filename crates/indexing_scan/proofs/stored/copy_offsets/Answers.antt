@@ -1,13 +1,12 @@
 -- The words copied: after i turns the first i stand in front of what out had behind them. Assumes nothing.
-use mathlib.Core.Path.{◌≡◌, refl, ap, ◌∙◌}
-use Prim.Native.Nat.{ℕ, ◌-◌, ◌≤◌}
+use mathlib.Core.Path.{refl, ap, ◌∙◌}
+use Prim.Native.Nat.{ℕ}
 use native.Mathlib.Omega.{arith}
-use borrow.Author.Rules.{rules}
 use mathlib.Core.List.{List}
-use lib.ListN.{length, set, length-set}
+use lib.ListN.{set, length-set}
 use Rattle.records.proofs.Laws.{length-records_of}
 use Rattle.records.specs.Records.{records_of}
-use Rattle.indexing_scan.proofs.Turns.{copied, copied-start, copied_more, copied-end}
+use Rattle.indexing_scan.proofs.Turns.{copied-start, copied_more, copied-end}
 use Rattle.indexing_scan.proofs.stored.copy_offsets.Goals as goal
 
 pub loop-i-init : goal.loop-i-init

@@ -1,12 +1,8 @@
-use mathlib.Core.Path.{◌≡◌, refl, ap, ◌∙◌}
-use Prim.Native.Nat.{ℕ, ◌-◌, ◌≤◌}
-use native.Mathlib.Omega.{arith}
-use borrow.Author.Rules.{rules}
-use mathlib.Core.List.{List}
-use lib.ListN.{length, set, length-set}
-use Rattle.records.proofs.Laws.{length-records_of}
+use mathlib.Core.Path.{◌≡◌}
+use Prim.Native.Nat.{◌-◌, ◌≤◌}
+use lib.ListN.{length}
 use Rattle.records.specs.Records.{records_of}
-use Rattle.indexing_scan.proofs.Turns.{copied, copied-start, copied_more, copied-end}
+use Rattle.indexing_scan.proofs.Turns.{copied}
 use Rattle.indexing_scan.proofs.stored.copy_offsets.Given as goal
 
 abbrev pub invariant-loop-i : goal.invariant-loop-i

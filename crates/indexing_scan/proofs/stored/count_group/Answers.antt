@@ -1,15 +1,12 @@
 -- The entries of a group: those counted, with those from place i on, are all. Assumes nothing.
-use mathlib.Core.Path.{◌≡◌, sym, ◌∙◌}
+use mathlib.Core.Path.{sym, ◌∙◌}
 use mathlib.Core.Bool.{true, false}
-use mathlib.Core.Logic.{⊎_elim}
-use Prim.Native.Nat.{◌+◌, ◌-◌, ◌≤◌}
 use native.Mathlib.Omega.{arith}
-use borrow.Author.Rules.{rules}
-use lib.Seq.{slice}
 use Rattle.records.specs.Records.{records_of}
-use Rattle.indexing_scan.specs.Places.{in_group, count_of}
+use Rattle.indexing_scan.specs.Places.{in_group}
 use Rattle.indexing_scan.proofs.Turns.{count_turn, count-end}
 use Rattle.indexing_scan.proofs.stored.count_group.Goals as goal
+use Rattle.indexing_scan.proofs.stored.count_group.Goals.{then-in_group, else-in_group}
 
 pub loop-i-init : goal.loop-i-init
 loop-i-init c = (omega arith, omega arith, omega arith, omega arith)
@@ -21,10 +18,10 @@ loop-i-preserved c =
     let r = c.get in
     let u = count_turn (records_of a.index.now) l.i a.to r.result (omega arith) c.requires.1 r.ensures (in_group a.g) in
     let e = sym c.in_group.ensures in
-    ⊎_elim
-    (λ w. let v = u true (e ∙ w.0.taken) in (omega arith, omega arith, omega (arith, w.1), omega (arith, v, w.1)))
-    (λ w. let v = u false (e ∙ w.0.left) in (omega arith, omega arith, omega (arith, w.1), omega (arith, v, w.1)))
-    c.if-in_group.branch
+    elim c.if-in_group.branch [
+      | then-in_group w ↦ let v = u true (e ∙ w.if-in_group.true) in (omega arith, omega arith, omega (arith, w.count-is), omega (arith, v, w.count-is))
+      | else-in_group w ↦ let v = u false (e ∙ w.if-in_group.false) in (omega arith, omega arith, omega (arith, w.count-is), omega (arith, v, w.count-is))
+    ]
 
 pub returns : goal.returns
 returns c = let a = c.args in

@@ -1,13 +1,8 @@
-use mathlib.Core.Path.{◌≡◌, sym, ◌∙◌}
-use mathlib.Core.Bool.{true, false}
-use mathlib.Core.Logic.{⊎_elim}
+use mathlib.Core.Path.{◌≡◌}
 use Prim.Native.Nat.{◌+◌, ◌-◌, ◌≤◌}
-use native.Mathlib.Omega.{arith}
-use borrow.Author.Rules.{rules}
 use lib.Seq.{slice}
 use Rattle.records.specs.Records.{records_of}
 use Rattle.indexing_scan.specs.Places.{in_group, count_of}
-use Rattle.indexing_scan.proofs.Turns.{count_turn, count-end}
 use Rattle.indexing_scan.proofs.stored.count_group.Given as goal
 
 abbrev pub invariant-loop-i : goal.invariant-loop-i

@@ -1,6 +1,5 @@
 -- The number of offsets. Assumes nothing.
 use native.Mathlib.Omega.{arith}
-use borrow.Author.Rules.{rules}
 use Rattle.indexing_scan.specs.Places.{offsets_at}
 use Rattle.indexing_scan.proofs.stored.count_offsets.Goals as goal
 

@@ -1,11 +1,9 @@
 -- The first entry of a group: the records before it, from place i on, with those passed, are all before it. Assumes nothing.
 use mathlib.Core.Path.{sym, ◌∙◌}
-use Prim.Native.Nat.{◌-◌}
 use native.Mathlib.Omega.{arith}
-use borrow.Author.Rules.{rules}
 use Rattle.records.specs.Records.{records_of}
 use Rattle.indexing_scan.specs.Places.{in_group}
-use Rattle.indexing_scan.proofs.Turns.{Seeks, seeks-first, seeks-none, seeks-next, seeks-found}
+use Rattle.indexing_scan.proofs.Turns.{seeks-first, seeks-none, seeks-next, seeks-found}
 use Rattle.indexing_scan.proofs.stored.find_group.Goals as goal
 
 pub loop-i-init : goal.loop-i-init

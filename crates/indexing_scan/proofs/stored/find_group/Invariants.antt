@@ -1,10 +1,7 @@
-use mathlib.Core.Path.{sym, ◌∙◌}
 use Prim.Native.Nat.{◌-◌}
-use native.Mathlib.Omega.{arith}
-use borrow.Author.Rules.{rules}
 use Rattle.records.specs.Records.{records_of}
 use Rattle.indexing_scan.specs.Places.{in_group}
-use Rattle.indexing_scan.proofs.Turns.{Seeks, seeks-first, seeks-none, seeks-next, seeks-found}
+use Rattle.indexing_scan.proofs.Turns.{Seeks}
 use Rattle.indexing_scan.proofs.stored.find_group.Given as goal
 
 abbrev pub invariant-loop-i : goal.invariant-loop-i

@@ -1,5 +1,4 @@
 -- The place behind all tables. Assumes nothing.
-use borrow.Author.Rules.{rules}
 use Rattle.indexing_scan.specs.Places.{first_offset}
 use Rattle.indexing_scan.proofs.stored.first_offset.Goals as goal
 

@@ -1,6 +1,5 @@
 -- An entry with an equal key. Assumes nothing.
 use mathlib.Core.Path.{refl, ◌∙◌}
-use borrow.Author.Rules.{rules}
 use Rattle.indexing_scan.specs.Places.{has_key}
 use Rattle.indexing_scan.proofs.stored.has_key.Goals as goal
 

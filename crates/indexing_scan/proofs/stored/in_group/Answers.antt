@@ -1,6 +1,5 @@
 -- An entry of a group. Assumes nothing.
 use mathlib.Core.Path.{refl}
-use borrow.Author.Rules.{rules}
 use Rattle.indexing_scan.specs.Places.{in_group}
 use Rattle.indexing_scan.proofs.stored.in_group.Goals as goal
 

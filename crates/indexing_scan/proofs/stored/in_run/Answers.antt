@@ -1,6 +1,5 @@
 -- The kinds of a run. Assumes nothing.
 use mathlib.Core.Path.{refl}
-use borrow.Author.Rules.{rules}
 use Rattle.indexing_scan.proofs.stored.in_run.Goals as goal
 
 pub returns-in-Items : goal.returns-in-Items

@@ -1,7 +1,6 @@
 -- A record that does not belong to a run. Assumes nothing.
 use mathlib.Core.Path.{ap}
 use mathlib.Core.Bool.{not}
-use borrow.Author.Rules.{rules}
 use Rattle.indexing_scan.specs.Places.{leaves}
 use Rattle.indexing_scan.proofs.stored.leaves_run.Goals as goal
 

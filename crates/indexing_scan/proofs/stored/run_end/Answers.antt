@@ -1,11 +1,9 @@
 -- The place behind a run: what is left of it from place i on, with the places passed, is the whole. Assumes nothing.
 use mathlib.Core.Path.{sym, ◌∙◌}
-use Prim.Native.Nat.{◌-◌}
 use native.Mathlib.Omega.{arith}
-use borrow.Author.Rules.{rules}
 use Rattle.records.specs.Records.{records_of}
 use Rattle.indexing_scan.specs.Places.{leaves}
-use Rattle.indexing_scan.proofs.Turns.{Seeks, seeks-first, seeks-none, seeks-next, seeks-found}
+use Rattle.indexing_scan.proofs.Turns.{seeks-first, seeks-none, seeks-next, seeks-found}
 use Rattle.indexing_scan.proofs.stored.run_end.Goals as goal
 
 pub loop-i-init : goal.loop-i-init

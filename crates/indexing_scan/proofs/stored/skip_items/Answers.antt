@@ -1,6 +1,5 @@
 -- The place behind a table. Assumes nothing.
 use native.Mathlib.Omega.{arith}
-use borrow.Author.Rules.{rules}
 use Rattle.indexing_scan.specs.Places.{behind_table}
 use Rattle.indexing_scan.proofs.stored.skip_items.Goals as goal
 

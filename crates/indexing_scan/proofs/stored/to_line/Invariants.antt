@@ -1,13 +1,8 @@
-use mathlib.Core.Path.{◌≡◌, refl, ap, ◌∙◌}
-use mathlib.Core.Bool.{true, false}
-use mathlib.Core.Logic.{⊎_elim}
-use Prim.Native.Nat.{ℕ, ◌+◌, ◌-◌, ◌≤◌}
-use native.Mathlib.Omega.{arith}
-use borrow.Author.Tests.{eq-eqb, ne_eqb}
+use mathlib.Core.Path.{◌≡◌}
+use Prim.Native.Nat.{◌+◌, ◌-◌, ◌≤◌}
 use lib.Seq.{slice}
 use Rattle.records.specs.Records.{records_of}
-use Rattle.indexing_scan.specs.Places.{through_line, behind_line}
-use Rattle.indexing_scan.proofs.Turns.{line-turn, line-zero, line-end}
+use Rattle.indexing_scan.specs.Places.{through_line}
 use Rattle.indexing_scan.proofs.stored.to_line.Given as goal
 
 abbrev pub invariant-loop-i : goal.invariant-loop-i

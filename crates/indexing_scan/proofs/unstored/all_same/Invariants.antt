@@ -1,14 +1,10 @@
-use Prim.Native.Nat.{◌-◌, ◌+◌}
+use Prim.Native.Nat.{◌-◌}
 use mathlib.Core.Path.{◌≡◌}
 use lib.ListN.{length, drop}
 use Rattle.records.specs.Records.{records_of}
 use Rattle.indexing_iter.specs.Classes.{class_of}
-use Rattle.indexing_iter.specs.Clauses.{key_of, known}
-use mathlib.Core.Bool.{◌&&◌}
-use borrow.Author.Tests.{not-true, not-false}
+use Rattle.indexing_iter.specs.Clauses.{key_of}
 use Rattle.indexing_scan.specs.Unstored.{all_same}
-use Rattle.indexing_scan.proofs.HeldLaws.{same_step, same-done, known_at}
-use borrow.Author.Rules.{rules}
 use Rattle.indexing_scan.proofs.unstored.all_same.Given as goal
 
 abbrev pub invariant-loop-i : goal.invariant-loop-i

@@ -1,6 +1,6 @@
-use Prim.Native.Nat.{◌-◌, ◌+◌}
+use Prim.Native.Nat.{◌+◌}
 use mathlib.Core.Path.{◌≡◌}
-use lib.ListN.{length, drop}
+use lib.ListN.{drop}
 use Rattle.records.specs.Records.{records_of}
 use Rattle.indexing_iter.specs.Classes.{class_of}
 use Rattle.indexing_iter.specs.Clauses.{key_of, known}
@@ -13,14 +13,14 @@ use Rattle.indexing_scan.proofs.unstored.any_open.Goals as goal
 
 -- in a turn: whether the clause at i is open, and whether one after it is
 turn : (c : After-is_open)
-    → 
+    →
     let a = c.args in
     let K = key_of class_of (records_of a.code.now) a.starts.now in
     (c.is_open.result || any_open K a.a (drop (c.loop-i.i + 1) a.clauses.now)) ≡ any_open K a.a a.clauses.now
 turn c =
     let a = c.args in
     let K = key_of class_of (records_of a.code.now) a.starts.now in
-    rw (open_step K a.a a.clauses.now c.loop-i.i (search rules), ← c.key_of-k.ensures, ← c.is_open.ensures) c c.loop-i.invariant
+    rw (open_step K a.a a.clauses.now c.loop-i.i (search rules), ← c.key_of-k.ensures, ← c.is_open.ensures) at c.loop-i.invariant
 
 pub key_of-k-requires : goal.key_of-k-requires
 key_of-k-requires c = let a = c.args in

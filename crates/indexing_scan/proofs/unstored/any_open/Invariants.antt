@@ -1,13 +1,10 @@
-use Prim.Native.Nat.{◌-◌, ◌+◌}
+use Prim.Native.Nat.{◌-◌}
 use mathlib.Core.Path.{◌≡◌}
 use lib.ListN.{length, drop}
 use Rattle.records.specs.Records.{records_of}
 use Rattle.indexing_iter.specs.Classes.{class_of}
-use Rattle.indexing_iter.specs.Clauses.{key_of, known}
-use mathlib.Core.Bool.{◌||◌}
+use Rattle.indexing_iter.specs.Clauses.{key_of}
 use Rattle.indexing_scan.specs.Unstored.{any_open}
-use Rattle.indexing_scan.proofs.HeldLaws.{open_step, open_done, known_at}
-use borrow.Author.Rules.{rules}
 use Rattle.indexing_scan.proofs.unstored.any_open.Given as goal
 
 abbrev pub invariant-loop-i : goal.invariant-loop-i

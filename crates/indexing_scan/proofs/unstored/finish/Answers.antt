@@ -2,7 +2,6 @@ use Rattle.indexing_iter.proofs.CheckLaws.{code-arity}
 use Prim.Native.Nat.{◌+◌, ◌-◌}
 use mathlib.Core.Path.{◌≡◌, refl}
 use mathlib.Core.List.{[]}
-use mathlib.Core.Logic.{⊎_elim}
 use lib.ListN.{length, take}
 use native.Mathlib.Omega.{arith}
 use Rattle.records.specs.Records.{records_of}
@@ -12,9 +11,9 @@ use Rattle.indexing_scan.specs.Calls.{call_of}
 use Rattle.indexing_scan.specs.ByArgument.{answer_from}
 use Rattle.indexing_scan.specs.Walk.{unstored}
 use Rattle.indexing_scan.proofs.CallLaws.{call-records}
-use Rattle.indexing_scan.proofs.UnstoredLaws.{Stepped, goes_first, goes_step, goes_end, Finishing, finishing-next}
+use Rattle.indexing_scan.proofs.UnstoredLaws.{Stepped, goes_first, goes_step, goes_end, finishing-next}
 use borrow.Author.Rules.{rules}
-use Rattle.indexing_scan.proofs.unstored.finish.Goals.{After-narrow-r}
+use Rattle.indexing_scan.proofs.unstored.finish.Goals.{After-narrow-r, in-NoTable, in-Passed, in-Bucket}
 use Rattle.indexing_scan.proofs.unstored.finish.Goals as goal
 
 -- what the answer is after this argument
@@ -25,7 +24,7 @@ turn : (c : After-narrow-r)
     let Q = call_of a.call.now in
     Stepped P Q (answer_from P Q (a.settings.arity + 1 - a.a) a.a [] (unstored (take a.m a.clauses.now)))
     l.tables l.b l.count c.narrow-r.new.clauses c.narrow-r.result
-turn c =     let l = c.loop-b in
+turn c = let l = c.loop-b in
     let a = c.args in
     let P = program_of class_of a.settings (records_of a.code.now) a.starts.now in
     let Q = call_of a.call.now in
@@ -86,14 +85,13 @@ loop-b-preserved c =
     let h = c.narrow-r.ensures.held in
     let len : length new ≡ length l.clauses = search rules in
     let on = finishing-next l.invariant c.loop-b-test.true new len in
-    ⊎_elim
-    (λ w. rw (w.2, w.3) (on l.count l.tables (rw w.1.given.1 at (turn (goal.at.loop-b-preserved c).After-narrow-r)) (omega arith) (omega arith) (rw w.1.given.1 at h.offsets)))
-    (⊎_elim
-    (λ w. rw (w.2, w.3) (on l.count (l.tables + 1) (rw w.1.given.1 at (turn (goal.at.loop-b-preserved c).After-narrow-r)) (omega arith) (omega arith) (rw w.1.given.1 at h.offsets)))
-    (λ w.
-    let e = w.1.given in
-    rw (w.3, w.4) (on e.0.1.0 (l.tables + 1) (rw e.1 at (turn (goal.at.loop-b-preserved c).After-narrow-r)) (rw e.1 at h.within) (omega arith) (rw e.1 at h.offsets))))
-    c.in-NoTable.branch
+    let t = turn (goal.at.loop-b-preserved c).After-narrow-r in
+    elim c.match-r.branch [
+      | in-NoTable w ↦ rw (w.count-is, w.tables-is) (on l.count l.tables (rw w.in-NoTable.is at t) (omega arith) (omega arith) (rw w.in-NoTable.is at h.offsets))
+      | in-Passed w ↦ rw (w.count-is, w.tables-is) (on l.count (l.tables + 1) (rw w.in-Passed.is at t) (omega arith) (omega arith) (rw w.in-Passed.is at h.offsets))
+      | in-Bucket w ↦ let e = w.in-Bucket.is in
+          rw (w.count-is, w.tables-is) (on w.in-Bucket.k (l.tables + 1) (rw e at t) (rw e at h.within) (omega arith) (rw e at h.offsets))
+    ]
 
 pub returns : goal.returns
 returns c = let l = c.loop-b in

@@ -1,19 +1,13 @@
-use Rattle.indexing_iter.proofs.CheckLaws.{code-arity}
 use Prim.Native.Nat.{◌+◌, ◌-◌}
-use mathlib.Core.Path.{◌≡◌, refl}
 use mathlib.Core.List.{[]}
-use mathlib.Core.Logic.{⊎_elim}
 use lib.ListN.{length, take}
-use native.Mathlib.Omega.{arith}
 use Rattle.records.specs.Records.{records_of}
 use Rattle.indexing_iter.specs.Classes.{class_of}
 use Rattle.indexing.specs.Build.{program_of}
 use Rattle.indexing_scan.specs.Calls.{call_of}
 use Rattle.indexing_scan.specs.ByArgument.{answer_from}
 use Rattle.indexing_scan.specs.Walk.{unstored}
-use Rattle.indexing_scan.proofs.CallLaws.{call-records}
-use Rattle.indexing_scan.proofs.UnstoredLaws.{Stepped, goes_first, goes_step, goes_end, Finishing, finishing-next}
-use borrow.Author.Rules.{rules}
+use Rattle.indexing_scan.proofs.UnstoredLaws.{Finishing}
 use Rattle.indexing_scan.proofs.unstored.finish.Given as goal
 
 abbrev pub invariant-loop-b : goal.invariant-loop-b

@@ -21,26 +21,26 @@ grouped : (c : After-keep_alike-n)
     → let a = c.args in
     Front (like_to (key_of class_of (records_of a.code.now) a.starts.now) true a.a a.q (take a.m a.clauses.now))
     c.keep_alike-n.result c.keep_alike-n.new.clauses
-grouped c =     let a = c.args in
+grouped c = let a = c.args in
     let G = like_to (key_of class_of (records_of a.code.now) a.starts.now) true a.a a.q (take a.m a.clauses.now) in
     front_kept G (drop c.keep_alike-n.result a.clauses.now) c.keep_alike-n.new.clauses c.keep_alike-n.result c.keep_alike-n.ensures.value c.keep_alike-n.ensures.clauses_after
 
 grouped-known : (c : After-keep_alike-n)
     → let a = c.args in
     every (known a.starts.now) (take c.keep_alike-n.result c.keep_alike-n.new.clauses) ≡ true
-grouped-known c =     let a = c.args in
+grouped-known c = let a = c.args in
     let K = key_of class_of (records_of a.code.now) a.starts.now in
     ap (every (known a.starts.now)) (grouped c).front ∙ known-like (known a.starts.now) K true a.a a.q (take a.m a.clauses.now) (search rules)
 
 grouped-few : (c : After-keep_alike-n) → c.keep_alike-n.result ≤ c.args.m
-grouped-few c =     let a = c.args in
+grouped-few c = let a = c.args in
     let K = key_of class_of (records_of a.code.now) a.starts.now in
     let n : length (take a.m a.clauses.now) ≡ a.m = length-take-le a.m a.clauses.now (search rules) in
     omega (arith, (grouped c).count, length-like K true a.a a.q (take a.m a.clauses.now))
 
 -- whether the group has one key
 compared : (c : After-all_same)
-    → 
+    →
     let a = c.args in
     let K = key_of class_of (records_of a.code.now) a.starts.now in
     let list = c.keep_alike-n.new.clauses in
@@ -52,7 +52,7 @@ compared c =
 
 -- the clauses with the equal key stand at the front
 picked : (c : After-keep_alike-k)
-    → 
+    →
     let a = c.args in
     Front (like_to (key_of class_of (records_of a.code.now) a.starts.now) false a.a a.q (take c.keep_alike-n.result c.keep_alike-n.new.clauses))
     c.keep_alike-k.result c.keep_alike-k.new.clauses
@@ -62,32 +62,32 @@ picked c =
     let B = like_to (key_of class_of (records_of a.code.now) a.starts.now) false a.a a.q (take c.keep_alike-n.result list) in
     front_kept B (drop c.keep_alike-k.result list) c.keep_alike-k.new.clauses c.keep_alike-k.result c.keep_alike-k.ensures.value c.keep_alike-k.ensures.clauses_after
 
-picked-known : (c : After-keep_alike-k)
+picked-known : (c : After-keep_alike-k) → every (known c.args.starts.now) (take c.keep_alike-n.result c.keep_alike-n.new.clauses) ≡ true
     → let a = c.args in
     every (known a.starts.now) (take c.keep_alike-k.result c.keep_alike-k.new.clauses) ≡ true
-picked-known c =
+picked-known c e =
     let a = c.args in
     let K = key_of class_of (records_of a.code.now) a.starts.now in
     let G = take c.keep_alike-n.result c.keep_alike-n.new.clauses in
-    ap (every (known a.starts.now)) (picked c).front ∙ known-like (known a.starts.now) K false a.a a.q G (grouped-known c)
+    ap (every (known a.starts.now)) (picked c).front ∙ known-like (known a.starts.now) K false a.a a.q G e
 
-picked-few : (c : After-keep_alike-k) → c.keep_alike-k.result ≤ c.args.m
-picked-few c =
+picked-few : (c : After-keep_alike-k) → c.keep_alike-n.result ≤ length c.keep_alike-n.new.clauses → c.keep_alike-n.result ≤ c.args.m → c.keep_alike-k.result ≤ c.args.m
+picked-few c room few =
     let a = c.args in
     let K = key_of class_of (records_of a.code.now) a.starts.now in
     let list = c.keep_alike-n.new.clauses in
-    let n : length (take c.keep_alike-n.result list) ≡ c.keep_alike-n.result = length-take-le c.keep_alike-n.result list (grouped c).room in
-    omega (arith, (picked c).count, length-like K false a.a a.q (take c.keep_alike-n.result list), grouped-few c)
+    let n : length (take c.keep_alike-n.result list) ≡ c.keep_alike-n.result = length-take-le c.keep_alike-n.result list room in
+    omega (arith, (picked c).count, length-like K false a.a a.q (take c.keep_alike-n.result list))
 
 pub returns-then-n-eq0 : goal.returns-then-n-eq0
 returns-then-n-eq0 c =
     let a = c.args in
     let P = program_of class_of a.settings (records_of a.code.now) a.starts.now in
     let list = c.keep_alike-n.new.clauses in
-    rw c.no_entry.ensures (
-      follow-empty P a.a (take a.m a.clauses.now) a.q (search rules) c.keep_alike-n.result list c.keep_alike-n.ensures.value c.if-n-eq0.true,
-      held-empty a.starts.now a.m a.clauses.now list a.settings.dynamic a.q,
-    )
+    rw c.no_entry.ensures (record {
+      clauses_after = follow-empty P a.a (take a.m a.clauses.now) a.q (search rules) c.keep_alike-n.result list c.keep_alike-n.ensures.value c.if-n-eq0.true;
+      held = held-empty a.starts.now a.m a.clauses.now list a.settings.dynamic a.q;
+    })
 
 pub bounds-clauses-0 : goal.bounds-clauses-0
 bounds-clauses-0 c =
@@ -111,9 +111,9 @@ slice_bounds-all_same-end-2 c =
 
 pub all_same-requires : goal.all_same-requires
 all_same-requires c = record {
-      starts_value = search rules;
-      clauses_value = grouped-known (goal.at.all_same-requires c).After-keep_alike-n;
-    }
+  starts_value = search rules;
+  clauses_value = grouped-known (goal.at.all_same-requires c).After-keep_alike-n;
+}
 
 pub returns-then-all_same : goal.returns-then-all_same
 returns-then-all_same c =
@@ -122,10 +122,10 @@ returns-then-all_same c =
     let n = c.keep_alike-n.result in
     let list = c.keep_alike-n.new.clauses in
     let h : 0 < n = omega (arith, c.if-n-eq0.false) in
-    rw c.entered.ensures (
-      follow_one P a.a (take a.m a.clauses.now) a.q (search rules) n list (grouped (goal.at.returns-then-all_same c).After-keep_alike-n) h (sym (compared (goal.at.returns-then-all_same c).After-all_same) ∙ c.if-all_same.true),
-      held-entered a.starts.now a.m a.clauses.now list a.settings.dynamic 4 n (grouped (goal.at.returns-then-all_same c).After-keep_alike-n).room (grouped-few (goal.at.returns-then-all_same c).After-keep_alike-n) (grouped-known (goal.at.returns-then-all_same c).After-keep_alike-n),
-    )
+    rw c.entered.ensures (record {
+      clauses_after = follow_one P a.a (take a.m a.clauses.now) a.q (search rules) n list (grouped (goal.at.returns-then-all_same c).After-keep_alike-n) h (sym (compared (goal.at.returns-then-all_same c).After-all_same) ∙ c.if-all_same.true);
+      held = held-entered a.starts.now a.m a.clauses.now list a.settings.dynamic 4 n (grouped (goal.at.returns-then-all_same c).After-keep_alike-n).room (grouped-few (goal.at.returns-then-all_same c).After-keep_alike-n) (grouped-known (goal.at.returns-then-all_same c).After-keep_alike-n);
+    })
 
 pub keep_alike-k-requires : goal.keep_alike-k-requires
 keep_alike-k-requires c =
@@ -161,8 +161,10 @@ returns c =
     let new = c.keep_alike-k.new.clauses in
     let h : 0 < n = omega (arith, c.if-n-eq0.false) in
     let z : 0 < c.keep_alike-k.result = omega (arith, c.if-k-eq0.false) in
-    rw c.entered-2.ensures (
-      follow-equal P a.a (take a.m a.clauses.now) a.q (search rules) n c.keep_alike-k.result list new (grouped (goal.at.returns c).After-keep_alike-n) h
-          (sym (compared (goal.at.returns c).After-all_same) ∙ c.if-all_same.false) (picked (goal.at.returns c).After-keep_alike-k) z,
-      held-entered a.starts.now a.m a.clauses.now new a.settings.dynamic 5 c.keep_alike-k.result (picked (goal.at.returns c).After-keep_alike-k).room (picked-few (goal.at.returns c).After-keep_alike-k) (picked-known (goal.at.returns c).After-keep_alike-k),
-    )
+    let p = goal.at.returns c in
+    rw c.entered-2.ensures (record {
+      clauses_after = follow-equal P a.a (take a.m a.clauses.now) a.q (search rules) n c.keep_alike-k.result list new (grouped p.After-keep_alike-n) h
+          (sym (compared p.After-all_same) ∙ c.if-all_same.false) (picked p.After-keep_alike-k) z;
+      held = held-entered a.starts.now a.m a.clauses.now new a.settings.dynamic 5 c.keep_alike-k.result (picked p.After-keep_alike-k).room (picked-few p.After-keep_alike-k (grouped p.After-keep_alike-n).room (grouped-few p.After-keep_alike-n))
+          (picked-known p.After-keep_alike-k (grouped-known p.After-keep_alike-n));
+    })

@@ -1,5 +1,4 @@
 use mathlib.Core.Path.{refl}
-use borrow.Author.Rules.{rules}
 use Rattle.indexing_scan.proofs.unstored.is_alike.Goals as goal
 
 pub returns-then-group : goal.returns-then-group

@@ -1,17 +1,17 @@
 use mathlib.Core.Bool.{Bool}
 use lib.Seq.{length-take-le, get_or-take}
-use Prim.Native.Nat.{ℕ, ◌-◌, ◌+◌, ◌≤◌, ◌<◌}
+use Prim.Native.Nat.{ℕ, ◌+◌, ◌≤◌, ◌<◌}
 use mathlib.Core.Path.{◌≡◌, sym, ap, ◌∙◌}
-use mathlib.Core.Logic.{⊎_elim}
 use lib.ListN.{length, take, get_or, length-set}
 use native.Mathlib.Omega.{arith}
 use Rattle.records.specs.Records.{records_of}
 use Rattle.indexing_iter.specs.Classes.{class_of}
 use Rattle.indexing_iter.specs.Clauses.{key_of, known}
 use Rattle.indexing_scan.specs.Unstored.{alike, like_to}
-use Rattle.indexing_scan.proofs.HeldLaws.{Kept, kept-start, kept_read, kept-yes, kept-no, known_at}
+use Rattle.indexing_scan.proofs.HeldLaws.{kept-start, kept_read, kept-yes, kept-no, known_at}
 use borrow.Author.Rules.{rules}
 use Rattle.indexing_scan.proofs.unstored.keep_alike.Goals as goal
+use Rattle.indexing_scan.proofs.unstored.keep_alike.Goals.{then-is_alike, else-is_alike}
 
 pub loop-i-init : goal.loop-i-init
 loop-i-init c = let a = c.args in
@@ -40,15 +40,15 @@ loop-i-preserved c =
     let r = kept_read t a.clauses.now c.loop-i.i c.loop-i.k c.loop-i.clauses s in
     let e : c.is_alike.result ≡ t (get_or c.loop-i.clauses c.loop-i.i 0) =
     rw c.key_of.ensures at c.is_alike.ensures in
-    ⊎_elim
-    (λ w.
-    let o = get_or c.loop-i.clauses c.loop-i.i 0 in
-    let k = kept-yes t a.clauses.now c.loop-i.i c.loop-i.k c.loop-i.clauses o s h r (sym e ∙ w.0.taken) in
-    rw (w.1, w.2) (n, length-set c.loop-i.clauses c.loop-i.k o ∙ c.loop-i.invariant.1, k))
-    (λ w.
-    let k = kept-no t a.clauses.now c.loop-i.i c.loop-i.k c.loop-i.clauses s h (sym (e ∙ ap t r) ∙ w.0.left) in
-    rw (w.1, w.2) (n, c.loop-i.invariant.1, k))
-    c.if-is_alike.branch
+    elim c.if-is_alike.branch [
+      | then-is_alike w ↦
+          let o = get_or c.loop-i.clauses c.loop-i.i 0 in
+          let k = kept-yes t a.clauses.now c.loop-i.i c.loop-i.k c.loop-i.clauses o s h r (sym e ∙ w.if-is_alike.true) in
+          rw (w.clauses-is, w.k-is) (n, length-set c.loop-i.clauses c.loop-i.k o ∙ c.loop-i.invariant.1, k)
+      | else-is_alike w ↦
+          let k = kept-no t a.clauses.now c.loop-i.i c.loop-i.k c.loop-i.clauses s h (sym (e ∙ ap t r) ∙ w.if-is_alike.false) in
+          rw (w.clauses-is, w.k-is) (n, c.loop-i.invariant.1, k)
+    ]
 
 pub returns : goal.returns
 unfolding like_to

@@ -69,10 +69,10 @@ returns-then-is_open-2 c =
 
 pub follow_new-requires : goal.follow_new-requires
 follow_new-requires c = record {
-      starts_value = search rules;
-      m_in_bounds = search rules;
-      q_value = sym c.is_open-2.ensures ∙ c.if-is_open-2.false;
-    }
+  starts_value = search rules;
+  m_in_bounds = search rules;
+  q_value = sym c.is_open-2.ensures ∙ c.if-is_open-2.false;
+}
 
 pub returns : goal.returns
 returns c = let u = c.is_open-2 in

@@ -1,4 +1,3 @@
-use borrow.Author.Rules.{rules}
 use Rattle.indexing_scan.proofs.witness.agree_at.Goals as goal
 
 pub returns : goal.returns

@@ -1,8 +1,7 @@
-use Prim.Native.Nat.{◌+◌, ◌-◌, ◌≤◌}
+use Prim.Native.Nat.{◌+◌}
 use mathlib.Core.Path.{◌≡◌}
 use mathlib.Core.Bool.{◌&&◌}
 use native.Mathlib.Omega.{arith}
-use borrow.Author.Tests.{not-true, not-false}
 use Rattle.records.specs.Records.{records_of}
 use Rattle.indexing_iter.specs.Classes.{class_of}
 use Rattle.indexing_iter.proofs.CheckLaws.{code-arity}
@@ -22,7 +21,7 @@ turn : (c : After-agree_at)
     let P = program_of class_of a.settings (records_of a.code.now) a.starts.now in
     let Q = call_of a.call.now in
     (c.agree_at.result && agrees_at P Q a.offset (l.a + 1)) ≡ agree P Q a.offset
-turn c =     let l = c.loop-a in
+turn c = let l = c.loop-a in
     let a = c.args in
     let P = program_of class_of a.settings (records_of a.code.now) a.starts.now in
     let Q = call_of a.call.now in
@@ -39,10 +38,10 @@ call_key-q-requires c = let a = c.args in
     (search rules, omega (arith, c.loop-a-test.true, call-records a.settings.arity a.call.now (search rules)))
 
 pub returns-then-not-agree_at : goal.returns-then-not-agree_at
-returns-then-not-agree_at c = rw (not-true c.agree_at.result c.if-not-agree_at.true) at (turn (goal.at.returns-then-not-agree_at c).After-agree_at)
+returns-then-not-agree_at c = rw c.if-not-agree_at.true at (turn (goal.at.returns-then-not-agree_at c).After-agree_at)
 
 pub loop-a-preserved : goal.loop-a-preserved
-loop-a-preserved c = (rw (not-false c.agree_at.result c.if-not-agree_at.false) at (turn (goal.at.loop-a-preserved c).After-agree_at), search rules, search rules, search rules)
+loop-a-preserved c = (rw c.if-not-agree_at.false at (turn (goal.at.loop-a-preserved c).After-agree_at), search rules, search rules, search rules)
 
 pub returns : goal.returns
 returns c = let a = c.args in

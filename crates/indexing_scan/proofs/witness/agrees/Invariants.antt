@@ -1,17 +1,11 @@
 use Prim.Native.Nat.{◌+◌, ◌-◌, ◌≤◌}
 use mathlib.Core.Path.{◌≡◌}
-use mathlib.Core.Bool.{◌&&◌}
-use native.Mathlib.Omega.{arith}
-use borrow.Author.Tests.{not-true, not-false}
 use Rattle.records.specs.Records.{records_of}
 use Rattle.indexing_iter.specs.Classes.{class_of}
-use Rattle.indexing_iter.proofs.CheckLaws.{code-arity}
 use Rattle.indexing.specs.Build.{program_of}
 use Rattle.indexing_scan.specs.Agree.{agree}
 use Rattle.indexing_scan.specs.Calls.{call_of}
-use Rattle.indexing_scan.proofs.CallLaws.{call-records}
-use Rattle.indexing_scan.proofs.WitnessLaws.{agrees_at, agrees_first, agrees-step, agrees-done}
-use borrow.Author.Rules.{rules}
+use Rattle.indexing_scan.proofs.WitnessLaws.{agrees_at}
 use Rattle.indexing_scan.proofs.witness.agrees.Given as goal
 
 abbrev pub invariant-loop-a : goal.invariant-loop-a

@@ -1,6 +1,6 @@
-use Prim.Native.Nat.{◌+◌, ◌-◌}
+use Prim.Native.Nat.{◌+◌}
 use mathlib.Core.Path.{◌≡◌, refl}
-use lib.ListN.{length, get_or, drop}
+use lib.ListN.{get_or, drop}
 use native.Mathlib.Omega.{arith}
 use Rattle.records.specs.Records.{records_of}
 use Rattle.indexing_iter.specs.Classes.{class_of}
@@ -23,11 +23,15 @@ turn : (c : After-agrees)
     let Q = call_of a.call.now in
     first_of (add c.agrees.result (get_or a.starts.now l.i 0 + 1) (keep (agree P Q) (offsets_of (drop (l.i + 1) a.starts.now))))
     ≡ first_of (agreeing class_of a.code.now a.starts.now a.settings a.call.now)
-turn c =     let l = c.loop-i in
+turn c = let l = c.loop-i in
     let a = c.args in
     let P = program_of class_of a.settings (records_of a.code.now) a.starts.now in
     let Q = call_of a.call.now in
     rw (first_step (agree P Q) a.starts.now l.i (search rules), ← c.agrees.ensures) at l.invariant
+
+pub loop-i-init : goal.loop-i-init
+unfolding agreeing
+loop-i-init c = refl
 
 pub overflow_add-offset : goal.overflow_add-offset
 overflow_add-offset c = let a = c.args in

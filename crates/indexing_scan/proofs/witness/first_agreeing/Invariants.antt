@@ -1,17 +1,14 @@
-use Prim.Native.Nat.{◌+◌, ◌-◌}
-use mathlib.Core.Path.{◌≡◌, refl}
-use lib.ListN.{length, get_or, drop}
-use native.Mathlib.Omega.{arith}
+use Prim.Native.Nat.{◌-◌}
+use mathlib.Core.Path.{◌≡◌}
+use lib.ListN.{length, drop}
 use Rattle.records.specs.Records.{records_of}
 use Rattle.indexing_iter.specs.Classes.{class_of}
 use Rattle.indexing_iter.specs.Clauses.{offsets_of}
-use Rattle.indexing.specs.Lists.{add, keep}
+use Rattle.indexing.specs.Lists.{keep}
 use Rattle.indexing.specs.Build.{program_of}
 use Rattle.indexing_scan.specs.Agree.{agree}
 use Rattle.indexing_scan.specs.Calls.{call_of, agreeing}
 use Rattle.indexing_scan.specs.Witness.{first_of}
-use Rattle.indexing_scan.proofs.WitnessLaws.{first_step, first_done, clause-offset}
-use borrow.Author.Rules.{rules}
 use Rattle.indexing_scan.proofs.witness.first_agreeing.Given as goal
 
 abbrev pub invariant-loop-i : goal.invariant-loop-i

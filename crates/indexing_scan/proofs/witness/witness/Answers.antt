@@ -1,6 +1,5 @@
 use Rattle.indexing_iter.specs.Classes.{class_of}
 use Rattle.indexing_scan.proofs.WitnessLaws.{refused-first, refused-next, found_first}
-use borrow.Author.Rules.{rules}
 use Rattle.indexing_scan.proofs.witness.witness.Goals as goal
 
 pub returns-in_default : goal.returns-in_default
