@@ -31,7 +31,7 @@ slice_bounds-build_line-end-8 c = simp length-take (omega arith)
 pub build_line-requires : goal.build_line-requires
 build_line-requires c = let p = c.requires in
     record {
-      starts_value = p.0;
+      starts_value = p.starts_value;
       starts_len_bound = simp length-take (omega arith);
       sizes_len = simp length-take (omega arith);
     }
