@@ -114,26 +114,26 @@ module _ (P : Program) where
       looks = λ c x y. sym (ap (λ (z : Bool). cond z (some u) (find c ts)) (eqb-other {m = arg_of u} {n = c} (omega arith))) ∙ l.looks c (omega arith) y;
     }
 
-    rest-left : (s t : State) (a b : ℕ) (u : Table) (ts : List Table) {p : Place} → Turn P cap s b (Q b) p t → Here s.index p → arg_of u ≡ b → a ≤ b
+    rest-left : (s : State) (a b : ℕ) (t : State) (u : Table) (ts : List Table) {p : Place} → Turn P cap s b (Q b) p t → Here s.index p → arg_of u ≡ b → a ≤ b
         → Left s.index p a (u ∷ ts) → Left t.index p (suc b) ts
-    rest-left s t a b u ts {p} still h e k l = left-next s.index a b u ts p e k l
-    rest-left s t a b u ts {p} (quiet w) h e k l = left-next s.index a b u ts p e k l
-    rest-left s t a b u ts (stores {l = m} d f) (here-line h) e k l =
+    rest-left s a b t u ts {p} still h e k l = left-next s.index a b u ts p e k l
+    rest-left s a b t u ts {p} (quiet w) h e k l = left-next s.index a b u ts p e k l
+    rest-left s a b t u ts (stores {l = m} d f) (here-line h) e k l =
         let n : Left s.index (line m) (suc b) ts = left-next s.index a b u ts (line m) e k l in
         record { args = n.args; looks = λ c x y. n.looks c x y ∙ sym (same-table P s.index m b h m c h (λ z. omega (arith, z.1))) }
-    rest-left s t a b u ts {p} (refuses w d f) h e k l = left-next s.index a b u ts p e k l
+    rest-left s a b t u ts {p} (refuses w d f) h e k l = left-next s.index a b u ts p e k l
 
-    turn-here : (s t : State) (b : ℕ) {p : Place} → Turn P cap s b (Q b) p t → Here s.index p → Here t.index p
-    turn-here s t b still r = here-new
-    turn-here s t b (quiet w) r = r
-    turn-here s t b (stores d f) (here-line {m = l} k) = here-line {m = l} (omega (arith, length-expand P s.index l b))
-    turn-here s t b (refuses w d f) r = r
+    turn-here : (s : State) (b : ℕ) (t : State) {p : Place} → Turn P cap s b (Q b) p t → Here s.index p → Here t.index p
+    turn-here s b t still r = here-new
+    turn-here s b t (quiet w) r = r
+    turn-here s b t (stores d f) (here-line {m = l} k) = here-line {m = l} (omega (arith, length-expand P s.index l b))
+    turn-here s b t (refuses w d f) r = r
 
-    turn-orderly : (s t : State) (b : ℕ) {p : Place} → Turn P cap s b (Q b) p t → Here s.index p → Orderly P s.index → Orderly P t.index
-    turn-orderly s t b still r o = o
-    turn-orderly s t b (quiet w) r o = o
-    turn-orderly s t b (stores {l = l} {c = c} d f) (here-line k) o = orderly-expand P s.index l b c k d o
-    turn-orderly s t b (refuses w d f) r o = o
+    turn-orderly : (s : State) (b : ℕ) (t : State) {p : Place} → Turn P cap s b (Q b) p t → Here s.index p → Orderly P s.index → Orderly P t.index
+    turn-orderly s b t still r o = o
+    turn-orderly s b t (quiet w) r o = o
+    turn-orderly s b t (stores {l = l} {c = c} d f) (here-line k) o = orderly-expand P s.index l b c k d o
+    turn-orderly s b t (refuses w d f) r o = o
 
     -- ---- the walk table by table
 
@@ -171,13 +171,13 @@ module _ (P : Program) where
       same : arg_of table ≡ b
       found : table_at P idx p b ≡ some table
 
-    seen : (s t : State) (c i a : ℕ) (u : Table) (us : List Table) {p : Place} → Turn P cap s (arg_of u) (Q (arg_of u)) p t
+    seen : (s : State) (c i a : ℕ) (u : Table) (us : List Table) (t : State) {p : Place} → Turn P cap s (arg_of u) (Q (arg_of u)) p t
         → drop i (tables_of P s.index c p) ≡ u ∷ us → Left s.index p a (u ∷ us) → Orderly P s.index → Here s.index p
         → Seen t.index p c i (arg_of u) us
-    seen s t c i a u us {p} still e l o h = record { table = u; stands = e; same = refl; found = left-first s.index p a u us l }
-    seen s t c i a u us {p} (quiet w) e l o h = record { table = u; stands = e; same = refl; found = left-first s.index p a u us l }
-    seen s t c i a u us {p} (refuses w d f) e l o h = record { table = u; stands = e; same = refl; found = left-first s.index p a u us l }
-    seen s t c i a u us (stores {l = m} {c = z} d f) e l o (here-line k) =
+    seen s c i a u us t {p} still e l o h = record { table = u; stands = e; same = refl; found = left-first s.index p a u us l }
+    seen s c i a u us t {p} (quiet w) e l o h = record { table = u; stands = e; same = refl; found = left-first s.index p a u us l }
+    seen s c i a u us t {p} (refuses w d f) e l o h = record { table = u; stands = e; same = refl; found = left-first s.index p a u us l }
+    seen s c i a u us t (stores {l = m} {c = z} d f) e l o (here-line k) =
         let b : ℕ = arg_of u in
         let idx : Index = s.index in
         record {
@@ -227,16 +227,16 @@ module _ (P : Program) where
         let m : ℕ = P.arity - b in
         let t : State = settle P cap s p b (Q b) in
         let w : Turn P cap s b (Q b) p t = turn P cap s p b (Q b) in
-        let o' : Orderly P t.index = turn-orderly s t b w h o in
-        let h' : Here t.index p = turn-here s t b w h in
-        let v : Seen t.index p c i b us = seen s t c i a u us w d l o h in
+        let o' : Orderly P t.index = turn-orderly s b t w h o in
+        let h' : Here t.index p = turn-here s b t w h in
+        let v : Seen t.index p c i b us = seen s c i a u us t w d l o h in
         ap (λ (t : State). visit P cap Q t p (drop i (tables_of P t.index c p)) (walk_on P cap Q fuel t p c (suc i)) (λ b q. walk_on P cap Q fuel t q b 0))
         (ready-settle s p c i a u us d l o h)
         ∙ visit-is t p c i b us (walk_on P cap Q fuel t p c (suc i)) (λ b q. walk_on P cap Q fuel t q b 0) v
         ∙ make-steps t.index t b p (walk_on P cap Q fuel t p c (suc i)) (λ q. walk_on P cap Q fuel t q b 0) (λ x. walk_from P cap Q m (suc b) t x)
         (move-ready t.index o' b (Q b) h')
         (steps-walk fuel m (suc b) t p c (suc i) us (drop-next i (tables_of P t.index c p) us v.table v.stands) (omega (arith, r.1))
-        (omega (arith, r.0, r.1)) (omega arith) (rest-left s t a b u us w h refl r.0 l) o' h')
+        (omega (arith, r.0, r.1)) (omega arith) (rest-left s a b t u us w h refl r.0 l) o' h')
         (λ q q' x. steps-walk fuel m (suc b) t q b 0 (tables_of P t.index b q) refl (omega (arith, r.1)) (omega (arith, r.0, r.1)) (omega arith)
         (ready-left t.index b r.1 x) o' (ready-here t.index b x))
         ∙ sym (walk-to n a (suc m) b s p (omega (arith, r.1)) r.0

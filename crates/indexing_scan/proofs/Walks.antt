@@ -106,23 +106,23 @@ module _ (P : Program) where
         ∙ same_from P idx l a c h d z Q n b e (kept k)
 
     -- one turn
-    turn-grown : (s t : State) (a : ℕ) (q : Key) {p p' : Place} → Turn s a q p t → Has s.index p p' → Grown P cap s.index t.index
-    turn-grown s t a q still r = grown-same
-    turn-grown s t a q (quiet w) r = grown-same
-    turn-grown s t a q (stores {l = l} {c = c} d f) (has-line k) = grown-more l a c k d f grown-same
-    turn-grown s t a q (refuses w d f) r = grown-same
+    turn-grown : (s : State) (a : ℕ) (t : State) (q : Key) {p p' : Place} → Turn s a q p t → Has s.index p p' → Grown P cap s.index t.index
+    turn-grown s a t q still r = grown-same
+    turn-grown s a t q (quiet w) r = grown-same
+    turn-grown s a t q (stores {l = l} {c = c} d f) (has-line k) = grown-more l a c k d f grown-same
+    turn-grown s a t q (refuses w d f) r = grown-same
 
     has-grown : {idx idx' : Index} {p p' : Place} → Grown P cap idx idx' → Has idx p p' → Has idx' p p'
     has-grown g (has-line {m = m} k) = has-line {m = m} (omega (arith, grown-length P cap g))
     has-grown g has_new = has_new
 
-    turn-answer : (s t : State) (a : ℕ) (q : Key) (Q : Call) (n : ℕ) {p p' : Place} → Turn s a q p t → Has s.index p p' → Closed s.index
+    turn-answer : (s : State) (a : ℕ) (t : State) (q : Key) (Q : Call) (n : ℕ) {p p' : Place} → Turn s a q p t → Has s.index p p' → Closed s.index
         → n + a ≡ suc P.arity
         → answer_from P Q n a t.index p ≡ answer_from P Q n a s.index p
-    turn-answer s t a q Q n still r z e = refl
-    turn-answer s t a q Q n (quiet w) r z e = refl
-    turn-answer s t a q Q n (stores {l = l} {c = c} d f) (has-line k) z e = same_from P s.index l a c k d z Q n a e (kept k)
-    turn-answer s t a q Q n (refuses w d f) r z e = refl
+    turn-answer s a t q Q n still r z e = refl
+    turn-answer s a t q Q n (quiet w) r z e = refl
+    turn-answer s a t q Q n (stores {l = l} {c = c} d f) (has-line k) z e = same_from P s.index l a c k d z Q n a e (kept k)
+    turn-answer s a t q Q n (refuses w d f) r z e = refl
 
     module _ (Q : Call) where
       -- the answer is that of the index handed in, whatever fits
@@ -132,13 +132,13 @@ module _ (P : Program) where
       walk-answer zero a s e z r = refl
       walk-answer (suc n) a s {p} e z r =
           let t : State = settle P cap s p a (Q a) in
-          let g : Grown P cap s.index t.index = turn-grown s t a (Q a) (turn s p a (Q a)) r in
+          let g : Grown P cap s.index t.index = turn-grown s a t (Q a) (turn s p a (Q a)) r in
           let z' : Closed t.index = grown-closed P cap g z in
           act-found t a p (move P t.index p a (Q a)) (λ u. walk_from P cap Q n (suc a) t u)
           ∙ act-alike (λ x. x) look (Has t.index) a (λ u. (walk_from P cap Q n (suc a) t u).found) (λ u. answer_from P Q n (suc a) t.index u)
           (has_move t.index z' a (Q a) (has-grown g r)) (has_left (has-grown g r))
           (λ u v w. walk-answer n (suc a) t (omega arith) z' w ∙ ap (λ (x : Place). answer_from P Q n (suc a) t.index x) (has_same w))
-          ∙ turn-answer s t a (Q a) Q (suc n) (turn s p a (Q a)) r z e
+          ∙ turn-answer s a t (Q a) Q (suc n) (turn s p a (Q a)) r z e
 
       -- the index left comes of the one handed in by expansions that fit
       pub walk-grown : (n a : ℕ) (s : State) {p p' : Place} → Closed s.index → Has s.index p p' → Grown P cap s.index (walk_from P cap Q n a s p).left
@@ -146,7 +146,7 @@ module _ (P : Program) where
       walk-grown zero a s z r = grown-same
       walk-grown (suc n) a s {p} {p'} z r =
           let t : State = settle P cap s p a (Q a) in
-          let g : Grown P cap s.index t.index = turn-grown s t a (Q a) (turn s p a (Q a)) r in
+          let g : Grown P cap s.index t.index = turn-grown s a t (Q a) (turn s p a (Q a)) r in
           let z' : Closed t.index = grown-closed P cap g z in
           act-left (λ i. Grown P cap s.index i) (Has t.index) t a (λ u. walk_from P cap Q n (suc a) t u)
           (has_move t.index z' a (Q a) (has-grown g r)) (has-grown g r)
