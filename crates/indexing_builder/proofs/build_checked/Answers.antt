@@ -1,7 +1,6 @@
 -- `build_checked` lends the fronts of its columns. Assumes nothing.
 use native.Mathlib.Omega.{arith}
 use lib.ListN.{length-take}
-use borrow.Author.Rules.{rules}
 use Rattle.indexing_builder.proofs.build_checked.Goals as goal
 
 pub slice_bounds-build_line-end : goal.slice_bounds-build_line-end

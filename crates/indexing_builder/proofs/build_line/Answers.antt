@@ -6,7 +6,6 @@ use Rattle.index_writer.specs.Choices.{AllKnown}
 use Rattle.index_writer.proofs.ColumnLaws.{starts-below, offsets-known}
 use Rattle.index_writer.proofs.IndexLaws.{checked, above, below, small}
 use Rattle.indexing_builder.proofs.BuilderLaws.{built-by}
-use borrow.Author.Rules.{rules}
 use Rattle.indexing_builder.proofs.build_line.Goals as goal
 
 pub start_choices-requires : goal.start_choices-requires

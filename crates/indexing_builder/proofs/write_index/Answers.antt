@@ -9,7 +9,6 @@ use Rattle.indexing.specs.Columns.{switch_recs, new_lines_recs, seed_recs}
 use Rattle.indexing.specs.Builder.{capacity_of}
 use Rattle.index_writer.proofs.IndexLaws.{switch-some}
 use Rattle.indexing_builder.proofs.BuilderLaws.{answer-refused, answer-done, seed-some, built-steps}
-use borrow.Author.Rules.{rules}
 use Rattle.indexing_builder.proofs.write_index.Goals.{After-new_lines_room}
 use Rattle.indexing_builder.proofs.write_index.Goals as goal
 

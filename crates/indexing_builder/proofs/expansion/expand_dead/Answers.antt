@@ -9,7 +9,6 @@ use Rattle.records.proofs.MoveLaws.{splice-steps}
 use Rattle.records.proofs.Grown.{wrote_none}
 use Rattle.indexing.specs.Columns.{dead_recs}
 use Rattle.indexing_builder.proofs.ExpansionLaws.{answer-none, answer-stored, dead-some}
-use borrow.Author.Rules.{rules}
 use Rattle.indexing_builder.proofs.expansion.expand_dead.Goals.{After-dead_room-more}
 use Rattle.indexing_builder.proofs.expansion.expand_dead.Goals as goal
 

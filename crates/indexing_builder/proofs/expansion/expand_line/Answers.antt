@@ -5,7 +5,6 @@ use native.Mathlib.Omega.{arith}
 use Rattle.indexing_iter.specs.Classes.{class_of}
 use Rattle.indexing_iter.proofs.KeyLaws.{code_ok}
 use Rattle.indexing_builder.proofs.ExpansionLaws.{switch-expanded, dead-expanded}
-use borrow.Author.Rules.{rules}
 use Rattle.indexing_builder.proofs.expansion.expand_line.Goals.{Start}
 use Rattle.indexing_builder.proofs.expansion.expand_line.Goals as goal
 

@@ -8,7 +8,6 @@ use Rattle.records.specs.declared.Rec.{Rec}
 use Rattle.indexing.specs.Columns.{switch_recs, new_lines_recs}
 use Rattle.index_writer.proofs.IndexLaws.{switch-some}
 use Rattle.indexing_builder.proofs.ExpansionLaws.{answer-none, answer-stored}
-use borrow.Author.Rules.{rules}
 use Rattle.indexing_builder.proofs.expansion.expand_switch.Goals.{After-new_lines_room}
 use Rattle.indexing_builder.proofs.expansion.expand_switch.Goals as goal
 

@@ -7,7 +7,6 @@ use lib.ListN.{length}
 use Rattle.records.specs.declared.Rec.{Rec}
 use Rattle.records.proofs.MoveLaws.{splice-steps}
 use Rattle.indexing.specs.Columns.{switch_recs, new_lines_recs}
-use borrow.Author.Rules.{rules}
 use Rattle.indexing_builder.proofs.expansion.write_switch.Goals.{Start}
 use Rattle.indexing_builder.proofs.expansion.write_switch.Goals as goal
 
