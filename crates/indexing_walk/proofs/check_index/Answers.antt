@@ -33,8 +33,8 @@ well_formed-requires c =
 
 pub returns-then-well_formed : goal.returns-then-well_formed
 returns-then-well_formed c = let a = c.args in
-    index-by a.settings a.starts.now a.index.now a.count true (fits (goal.at.returns-then-well_formed c).Else-capacity-count) (sym c.well-formed-2.ensures ∙ c.if-well_formed.true)
+    index-by a.settings a.starts.now a.index.now a.count true (fits (goal.at.returns-then-well_formed c).Else-capacity-count) (sym c.well_formed-2.ensures ∙ c.if-well_formed.true)
 
 pub returns : goal.returns
 returns c = let a = c.args in
-    index-by a.settings a.starts.now a.index.now a.count false (fits (goal.at.returns c).Else-capacity-count) (sym c.well-formed-2.ensures ∙ c.if-well_formed.false)
+    index-by a.settings a.starts.now a.index.now a.count false (fits (goal.at.returns c).Else-capacity-count) (sym c.well_formed-2.ensures ∙ c.if-well_formed.false)
