@@ -8,7 +8,6 @@ use Rattle.indexing_iter.specs.Checks.{rising_below}
 use Rattle.indexing_iter.proofs.KeyLaws.{code_ok}
 use Rattle.indexing.proofs.Stored.{capacity-within, capacity-small}
 use Rattle.indexing_walk.proofs.CallingLaws.{index-over, index-by}
-use borrow.Author.Rules.{rules}
 use Rattle.indexing_walk.proofs.check_index.Goals.{Else-capacity-count}
 use Rattle.indexing_walk.proofs.check_index.Goals as goal
 

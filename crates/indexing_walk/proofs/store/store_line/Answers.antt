@@ -1,7 +1,6 @@
 use native.Mathlib.Omega.{arith}
 use Rattle.indexing_walk.proofs.StandLaws.{AtDemand, within}
 use Rattle.indexing_walk.proofs.ExpandLaws.{read_count, read-offs, read-tags, Grows, demanded, grows}
-use borrow.Author.Rules.{rules}
 use Rattle.indexing_walk.proofs.store.store_line.Goals.{After-slice_known-6-1, Start}
 use Rattle.indexing_walk.proofs.store.store_line.Goals as goal
 

@@ -6,7 +6,6 @@ use lib.Seq.{length-take-le}
 use Rattle.indexing_walk.proofs.StandLaws.{AtDemand}
 use Rattle.indexing_walk.proofs.LineLaws.{place_in}
 use Rattle.indexing_walk.proofs.ExpandLaws.{read_count}
-use borrow.Author.Rules.{rules}
 use Rattle.indexing_walk.proofs.store.turn_store.Goals.{After-count_offsets-m, Start}
 use Rattle.indexing_walk.proofs.store.turn_store.Goals as goal
 

@@ -9,7 +9,6 @@ use Rattle.indexing_walk.proofs.TurnLaws.{AtTable, turn-open}
 use Rattle.indexing_walk.proofs.ReadyLaws.{small, table-range, to-pass}
 use Rattle.indexing_walk.proofs.LineLaws.{place_in}
 use Rattle.indexing_walk.proofs.NarrowLaws.{end-room, turn_end}
-use borrow.Author.Rules.{rules}
 use Rattle.indexing_walk.proofs.turns.turn.Goals.{Else-not-is_table, Start, Then-not-is_table}
 use Rattle.indexing_walk.proofs.turns.turn.Goals as goal
 

@@ -6,7 +6,6 @@ use Rattle.indexing_walk.proofs.StandLaws.{AtDemand}
 use Rattle.indexing_walk.proofs.TurnLaws.{AtTable, turn-dead, turn-switch}
 use Rattle.indexing_walk.proofs.ReadyLaws.{small, third-kind, table-range, to-pass}
 use Rattle.indexing_walk.proofs.LineLaws.{place_in, arity-32}
-use borrow.Author.Rules.{rules}
 use Rattle.indexing_walk.proofs.turns.turn_bound.Goals.{Else-kind-eq2, Start}
 use Rattle.indexing_walk.proofs.turns.turn_bound.Goals as goal
 
