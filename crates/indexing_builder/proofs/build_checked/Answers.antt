@@ -1,7 +1,6 @@
 -- `build_checked` lends the fronts of its columns. Assumes nothing.
 use native.Mathlib.Omega.{arith}
 use lib.ListN.{length-take}
-use borrow.Author.Rules.{rules}
 use Rattle.indexing_builder.proofs.build_checked.Goals as goal
 
 pub slice_bounds-build_line-end : goal.slice_bounds-build_line-end
@@ -31,7 +30,7 @@ slice_bounds-build_line-end-8 c = simp length-take (omega arith)
 pub build_line-requires : goal.build_line-requires
 build_line-requires c = let p = c.requires in
     record {
-      starts_value = p.0;
+      starts_value = p.starts_value;
       starts_len_bound = simp length-take (omega arith);
       sizes_len = simp length-take (omega arith);
     }

@@ -6,7 +6,6 @@ use Rattle.index_writer.specs.Choices.{AllKnown}
 use Rattle.index_writer.proofs.ColumnLaws.{starts-below, offsets-known}
 use Rattle.index_writer.proofs.IndexLaws.{checked, above, below, small}
 use Rattle.indexing_builder.proofs.BuilderLaws.{built-by}
-use borrow.Author.Rules.{rules}
 use Rattle.indexing_builder.proofs.build_line.Goals as goal
 
 pub start_choices-requires : goal.start_choices-requires
@@ -24,18 +23,18 @@ fill_columns-requires c =
       starts_value = checked a.code.now a.starts.now a.settings a.c c.requires.starts_value;
       all_known = subst (AllKnown a.starts.now) (sym o.ensures.offs_after) (offsets-known a.starts.now);
       le_a = (above a.code.now a.starts.now a.settings a.c c.requires.starts_value, below a.code.now a.starts.now a.settings a.c c.requires.starts_value);
-      offs_len_bound = omega (arith, c, o.auto.starts);
-      whole_len = omega (arith, c, o.auto.starts);
+      offs_len_bound = omega (arith, c, o.auto.offs, o.auto.tags);
+      whole_len = omega (arith, c, o.auto.offs, o.auto.tags);
     }
 
 pub write_index-requires : goal.write_index-requires
 write_index-requires c =
     let a = c.args in
-    let o = c.start_choices.auto.starts in
+    let o = c.start_choices.auto in
     let f = c.fill_columns in
-    let k = f.auto.code in record {
-      switch_columns = record { counts = omega (arith, c, o, k); sizes-are = f.ensures.sizes-are };
-      zeros_len = omega (arith, c, k);
+    let k = f.auto in record {
+      switch_columns = record { counts = omega (arith, c, o.offs, o.tags, k.leaders, k.heads, k.sizes, k.bits, k.opens); sizes-are = f.ensures.sizes-are };
+      zeros_len = omega (arith, c, k.leaders, k.whole);
       le_c = (above a.code.now a.starts.now a.settings a.c c.requires.starts_value, below a.code.now a.starts.now a.settings a.c c.requires.starts_value, small a.code.now a.starts.now a.settings a.c c.requires.starts_value);
     }
 

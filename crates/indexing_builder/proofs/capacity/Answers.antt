@@ -1,7 +1,6 @@
 -- `capacity` is the lesser of the buffer's whole records and 65,535. Assumes nothing.
 use native.Mathlib.Omega.{arith}
 use Rattle.indexing.proofs.Stored.{capacity-few, capacity-many}
-use borrow.Author.Rules.{rules}
 use Rattle.indexing_builder.proofs.capacity.Goals as goal
 
 pub returns-then-n-gt65535 : goal.returns-then-n-gt65535

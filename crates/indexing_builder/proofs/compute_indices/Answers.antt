@@ -6,7 +6,6 @@ use Rattle.indexing_iter.specs.declared.Checked.{Checked}
 use Rattle.indexing_iter.specs.Checks.{check_build}
 use Rattle.index_writer.proofs.IndexLaws.{below, small, few}
 use Rattle.indexing_builder.proofs.BuilderLaws.{refused-by}
-use borrow.Author.Rules.{rules}
 use Rattle.indexing_builder.proofs.compute_indices.Goals.{In-Passed}
 use Rattle.indexing_builder.proofs.compute_indices.Goals as goal
 

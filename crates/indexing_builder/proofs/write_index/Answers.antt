@@ -9,56 +9,47 @@ use Rattle.indexing.specs.Columns.{switch_recs, new_lines_recs, seed_recs}
 use Rattle.indexing.specs.Builder.{capacity_of}
 use Rattle.index_writer.proofs.IndexLaws.{switch-some}
 use Rattle.indexing_builder.proofs.BuilderLaws.{answer-refused, answer-done, seed-some, built-steps}
-use borrow.Author.Rules.{rules}
-use Rattle.indexing_builder.proofs.write_index.Goals.{After-new_lines_room, Start}
+use Rattle.indexing_builder.proofs.write_index.Goals.{After-new_lines_room}
 use Rattle.indexing_builder.proofs.write_index.Goals as goal
 
--- line 0, its switch and the new lines
-module _ (s : Start) where
-  abbrev seeds : List Rec
-  seeds = seed_recs s.args.zeros.now s.args.opens.now s.args.offs.now s.args.tags.now s.args.settings s.args.c
-  abbrev switch : List Rec
-  switch = switch_recs s.args.leaders.now s.args.heads.now s.args.bits.now s.args.offs.now s.args.settings.dynamic s.args.c 1
-  abbrev lines : List Rec
-  lines = new_lines_recs s.args.leaders.now s.args.heads.now s.args.opens.now s.args.offs.now s.args.tags.now s.args.settings s.args.c 1
-  switch-one : 1 ≤ length switch
-  switch-one = switch-some s.args.leaders.now s.args.heads.now s.args.bits.now s.args.offs.now s.args.settings.dynamic s.args.c 1
-  seeds-two : 2 ≤ length seeds
-  seeds-two = seed-some s.args.zeros.now s.args.opens.now s.args.offs.now s.args.tags.now s.args.settings s.args.c
-_  = 
-
--- their rooms
-rooms : (c : After-new_lines_room)
-    → (c.seed_room-n.result ≡ length (seeds c)) × (c.switch_room-k.result ≡ length (switch c)) × (c.new_lines_room.result ≡ length (lines c))
-rooms c =     let a = c.args in
-    (c.seed_room-n.ensures.by_index a.offs.now a.tags.now, c.switch_room-k.ensures.by_index a.bits.now a.offs.now a.c 1, c.new_lines_room.ensures.by_index a.offs.now a.tags.now 1)
+-- the rooms of line 0, of its switch and of the new lines
+rooms : (c : After-new_lines_room) → let a = c.args in
+    let seeds : List Rec = seed_recs a.zeros.now a.opens.now a.offs.now a.tags.now a.settings a.c in
+    let switch : List Rec = switch_recs a.leaders.now a.heads.now a.bits.now a.offs.now a.settings.dynamic a.c 1 in
+    let lines : List Rec = new_lines_recs a.leaders.now a.heads.now a.opens.now a.offs.now a.tags.now a.settings a.c 1 in
+    (c.seed_room-n.result ≡ length seeds) × (c.switch_room-k.result ≡ length switch) × (c.new_lines_room.result ≡ length lines)
+    × (1 ≤ length switch) × (2 ≤ length seeds)
+rooms c =
+    let a = c.args in
+    (c.seed_room-n.ensures.by_index a.offs.now a.tags.now, c.switch_room-k.ensures.by_index a.bits.now a.offs.now a.c 1,
+    c.new_lines_room.ensures.by_index a.offs.now a.tags.now 1, switch-some a.leaders.now a.heads.now a.bits.now a.offs.now a.settings.dynamic a.c 1,
+    seed-some a.zeros.now a.opens.now a.offs.now a.tags.now a.settings a.c)
 
 pub overflow_sub-k : goal.overflow_sub-k
-overflow_sub-k c = let a = c.args in omega (arith, c.switch_room-k.ensures.by_index a.bits.now a.offs.now a.c 1, switch-one c)
+overflow_sub-k c = let a = c.args in omega (arith, c.switch_room-k.ensures.by_index a.bits.now a.offs.now a.c 1, switch-some a.leaders.now a.heads.now a.bits.now a.offs.now a.settings.dynamic a.c 1)
 
 pub returns-then-room-size : goal.returns-then-room-size
 returns-then-room-size c =
     let q = c.capacity-room.ensures.value in
-    record { answer = answer-refused (capacity_of c.args.index.now) _ c.args.settings.skip (omega (arith, q, rooms (goal.at.returns-then-room-size c).After-new_lines_room, switch-one c, c.if-room-size)); leaves = refl }
+    record { answer = answer-refused (capacity_of c.args.index.now) _ c.args.settings.skip (omega (arith, q, rooms (goal.at.returns-then-room-size c).After-new_lines_room, c.if-room-size)); leaves = refl }
 
 pub put_seed-requires : goal.put_seed-requires
 put_seed-requires c =
     record {
       zeros_len_bound = omega (arith, c);
       arg_le_arity = omega (arith, c);
-      arg_in_bounds = omega (arith, c.capacity-room, rooms (goal.at.put_seed-requires c).After-new_lines_room, switch-one c, c.if-room-size);
+      arg_in_bounds = omega (arith, c.capacity-room, rooms (goal.at.put_seed-requires c).After-new_lines_room, c.if-room-size);
     }
 
 pub write_switch-requires : goal.write_switch-requires
 write_switch-requires c =
     let r = rooms (goal.at.write_switch-requires c).After-new_lines_room in
-    let o = switch-one c in
     record {
       switch_columns = c.requires.switch_columns;
-      placed = omega (arith, c, r, o, seeds-two c, c.put_seed.ensures.wrote.count, c.capacity-room, c.if-room-size);
+      placed = omega (arith, c, r, c.put_seed.ensures.wrote.count, c.capacity-room, c.if-room-size);
       arity_bound = omega (arith, c);
-      line_len = omega (arith, r, o);
-      lines_bound = omega (arith, r, o, c.if-room-size);
+      line_len = omega (arith, r);
+      lines_bound = omega (arith, r, c.if-room-size);
     }
 
 pub returns : goal.returns
@@ -72,6 +63,8 @@ returns c =
     record {
       answer =
           answer-done (capacity_of a.index.now) (n + (c.switch_room-k.result - 1) + c.new_lines_room.result) c.variable_offset-variable.result a.settings.skip
-          (omega (arith, r, switch-one c)) c.variable_offset-variable.ensures (omega (arith, q, c.if-room-size));
-      leaves = built-steps a.index.now v.new.index w.new.index n (seeds c) (switch c) (lines c) r.0 v.ensures.wrote w.ensures;
+          (omega (arith, r)) c.variable_offset-variable.ensures (omega (arith, q, c.if-room-size));
+      leaves = built-steps a.index.now v.new.index w.new.index n (seed_recs a.zeros.now a.opens.now a.offs.now a.tags.now a.settings a.c)
+          (switch_recs a.leaders.now a.heads.now a.bits.now a.offs.now a.settings.dynamic a.c 1)
+          (new_lines_recs a.leaders.now a.heads.now a.opens.now a.offs.now a.tags.now a.settings a.c 1) r.0 v.ensures.wrote w.ensures;
     }

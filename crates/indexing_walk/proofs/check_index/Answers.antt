@@ -8,7 +8,6 @@ use Rattle.indexing_iter.specs.Checks.{rising_below}
 use Rattle.indexing_iter.proofs.KeyLaws.{code_ok}
 use Rattle.indexing.proofs.Stored.{capacity-within, capacity-small}
 use Rattle.indexing_walk.proofs.CallingLaws.{index-over, index-by}
-use borrow.Author.Rules.{rules}
 use Rattle.indexing_walk.proofs.check_index.Goals.{Else-capacity-count}
 use Rattle.indexing_walk.proofs.check_index.Goals as goal
 
@@ -33,8 +32,8 @@ well_formed-requires c =
 
 pub returns-then-well_formed : goal.returns-then-well_formed
 returns-then-well_formed c = let a = c.args in
-    index-by a.settings a.starts.now a.index.now a.count true (fits (goal.at.returns-then-well_formed c).Else-capacity-count) (sym c.well-formed-2.ensures ∙ c.if-well_formed.true)
+    index-by a.settings a.starts.now a.index.now a.count true (fits (goal.at.returns-then-well_formed c).Else-capacity-count) (sym c.well_formed-2.ensures ∙ c.if-well_formed.true)
 
 pub returns : goal.returns
 returns c = let a = c.args in
-    index-by a.settings a.starts.now a.index.now a.count false (fits (goal.at.returns c).Else-capacity-count) (sym c.well-formed-2.ensures ∙ c.if-well_formed.false)
+    index-by a.settings a.starts.now a.index.now a.count false (fits (goal.at.returns c).Else-capacity-count) (sym c.well_formed-2.ensures ∙ c.if-well_formed.false)

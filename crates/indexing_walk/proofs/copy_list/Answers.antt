@@ -1,9 +1,7 @@
-use mathlib.Core.Path.{◌≡◌, refl, ◌∙◌, ap}
-use Prim.Native.Nat.{◌-◌, ◌≤◌}
+use mathlib.Core.Path.{refl, ◌∙◌, ap}
 use native.Mathlib.Omega.{arith}
-use lib.ListN.{length, set, get_or, length-set}
-use Rattle.indexing_walk.proofs.OuterLaws.{copied_to, copy_start, copy_more, copy-end}
-use borrow.Author.Rules.{rules}
+use lib.ListN.{set, get_or, length-set}
+use Rattle.indexing_walk.proofs.OuterLaws.{copy_start, copy_more, copy-end}
 use Rattle.indexing_walk.proofs.copy_list.Goals as goal
 
 pub loop-i-init : goal.loop-i-init

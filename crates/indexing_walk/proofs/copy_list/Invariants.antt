@@ -1,9 +1,7 @@
-use mathlib.Core.Path.{◌≡◌, refl, ◌∙◌, ap}
+use mathlib.Core.Path.{◌≡◌}
 use Prim.Native.Nat.{◌-◌, ◌≤◌}
-use native.Mathlib.Omega.{arith}
-use lib.ListN.{length, set, get_or, length-set}
-use Rattle.indexing_walk.proofs.OuterLaws.{copied_to, copy_start, copy_more, copy-end}
-use borrow.Author.Rules.{rules}
+use lib.ListN.{length}
+use Rattle.indexing_walk.proofs.OuterLaws.{copied_to}
 use Rattle.indexing_walk.proofs.copy_list.Given as goal
 
 abbrev pub invariant-loop-i : goal.invariant-loop-i

@@ -4,7 +4,6 @@ use Rattle.indexing_iter.specs.Checks.{check_code}
 use Rattle.indexing_iter.specs.Classes.{class_of}
 use Rattle.indexing_scan.specs.Calls.{check_call, check_out, check_index}
 use Rattle.indexing_walk.proofs.CallingLaws.{index-passed, out-passed, refused-1, refused-2, refused-3, refused-4, accepted}
-use borrow.Author.Rules.{rules}
 use Rattle.indexing_walk.proofs.switch_on_term.Goals.{In-Passed, In-Passed-b, In-Passed-c, In-Passed-d}
 use Rattle.indexing_walk.proofs.switch_on_term.Goals as goal
 

@@ -2,8 +2,7 @@ use mathlib.Core.Path.{◌≡◌, refl, ◌∙◌, sym, subst}
 use mathlib.Core.List.{List}
 use Prim.Native.Nat.{ℕ}
 use lib.ListN.{length}
-use Rattle.indexing_scan.specs.Walk.{Result}
-use Rattle.indexing_walk.specs.Walking.{Stands, Comes, rest_of, Kept, turns_left, Ends}
+use Rattle.indexing_walk.specs.Walking.{Kept, Ends}
 use borrow.Author.Rules.{rules}
 use Rattle.indexing_walk.proofs.walk_lines.Goals as goal
 

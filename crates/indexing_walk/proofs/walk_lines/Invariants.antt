@@ -1,10 +1,9 @@
-use mathlib.Core.Path.{◌≡◌, refl, ◌∙◌, sym, subst}
+use mathlib.Core.Path.{◌≡◌}
 use mathlib.Core.List.{List}
 use Prim.Native.Nat.{ℕ}
 use lib.ListN.{length}
 use Rattle.indexing_scan.specs.Walk.{Result}
-use Rattle.indexing_walk.specs.Walking.{Stands, Comes, rest_of, Kept, turns_left, Ends}
-use borrow.Author.Rules.{rules}
+use Rattle.indexing_walk.specs.Walking.{Stands, Comes, rest_of, Kept, turns_left}
 use Rattle.indexing_walk.proofs.walk_lines.Given as goal
 
 abbrev pub invariant-loop-v : goal.invariant-loop-v

@@ -1,5 +1,4 @@
 use mathlib.Core.Path.{refl}
-use borrow.Author.Rules.{rules}
 use Rattle.indexing_walk.proofs.walk_lists.Goals as goal
 
 pub walk_index-requires : goal.walk_index-requires

@@ -1,7 +1,6 @@
 -- `expansion::count_new_lines` counts the lines of the three groups. Assumes nothing.
 use Rattle.indexing.specs.Expanding.{lines_made}
 use native.Mathlib.Omega.{arith}
-use borrow.Author.Rules.{rules}
 use Rattle.indexing_builder.proofs.expansion.count_new_lines.Goals as goal
 
 pub returns : goal.returns

@@ -9,16 +9,14 @@ use Rattle.records.proofs.MoveLaws.{splice-steps}
 use Rattle.records.proofs.Grown.{wrote_none}
 use Rattle.indexing.specs.Columns.{dead_recs}
 use Rattle.indexing_builder.proofs.ExpansionLaws.{answer-none, answer-stored, dead-some}
-use borrow.Author.Rules.{rules}
 use Rattle.indexing_builder.proofs.expansion.expand_dead.Goals.{After-dead_room-more}
 use Rattle.indexing_builder.proofs.expansion.expand_dead.Goals as goal
 
-abbrev dead : tie.Start → List Rec
-dead s = dead_recs s.args.zeros.now s.args.opens.now s.args.offs.now s.args.t.arg
-
 -- its room
-room : (c : After-dead_room-more) → (c.dead_room-more.result ≡ length (dead c)) × (1 ≤ length (dead c))
-room c =     let a = c.args in
+room : (c : After-dead_room-more) → let a = c.args in let dead : List Rec = dead_recs a.zeros.now a.opens.now a.offs.now a.t.arg in
+    (c.dead_room-more.result ≡ length dead) × (1 ≤ length dead)
+room c =
+    let a = c.args in
     (c.dead_room-more.ensures.by_index a.offs.now, dead-some a.zeros.now a.opens.now a.offs.now a.t.arg)
 
 pub overflow_sub-more : goal.overflow_sub-more
@@ -45,6 +43,6 @@ returns c =
     record {
       answer = answer-stored a.t.capacity (a.t.count + k) a.t.lines (omega (arith, r)) (omega arith) c.if-t-total.false;
       leaves =
-          splice-steps a.index.now o.new.index w.new.index w.new.index a.t.at a.t.count k (dead c) []
+          splice-steps a.index.now o.new.index w.new.index w.new.index a.t.at a.t.count k (dead_recs a.zeros.now a.opens.now a.offs.now a.t.arg) []
           (omega (arith, c)) (omega (arith, c, c.if-t-total)) (omega (arith, r)) o.ensures w.ensures.1 (wrote_none w.new.index (a.t.count + k) [] refl);
     }

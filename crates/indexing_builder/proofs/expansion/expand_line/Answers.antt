@@ -5,7 +5,6 @@ use native.Mathlib.Omega.{arith}
 use Rattle.indexing_iter.specs.Classes.{class_of}
 use Rattle.indexing_iter.proofs.KeyLaws.{code_ok}
 use Rattle.indexing_builder.proofs.ExpansionLaws.{switch-expanded, dead-expanded}
-use borrow.Author.Rules.{rules}
 use Rattle.indexing_builder.proofs.expansion.expand_line.Goals.{Start}
 use Rattle.indexing_builder.proofs.expansion.expand_line.Goals as goal
 
@@ -25,14 +24,14 @@ fill_columns-requires c =
 pub any_open-requires : goal.any_open-requires
 any_open-requires c =
     record {
-      leaders_len_bound = omega (arith, c, c.fill_columns.auto.code);
+      leaders_len_bound = omega (arith, c, c.fill_columns.auto.whole, c.fill_columns.auto.opens);
       le_b = omega (arith, c, arity-32 (goal.at.any_open-requires c).Start);
     }
 
 pub expand_dead-requires : goal.expand_dead-requires
 expand_dead-requires c =
     record {
-      zeros_len_bound = omega (arith, c, c.fill_columns.auto.code);
+      zeros_len_bound = omega (arith, c, c.fill_columns.auto.whole, c.fill_columns.auto.opens);
       placed = omega (arith, c, arity-32 (goal.at.expand_dead-requires c).Start);
     }
 
@@ -45,8 +44,8 @@ returns-then-any_open c = let a = c.args in
 pub expand_switch-requires : goal.expand_switch-requires
 expand_switch-requires c =
     let f = c.fill_columns in
-    let k = f.auto.code in record {
-      switch_columns = record { counts = omega (arith, c, k); sizes-are = f.ensures.sizes-are };
+    let k = f.auto in record {
+      switch_columns = record { counts = omega (arith, c, k.leaders, k.heads, k.sizes, k.bits, k.opens); sizes-are = f.ensures.sizes-are };
       placed = c.requires.expandable.placed;
       arity_bound = arity-32 (goal.at.expand_switch-requires c).Start;
     }

@@ -8,35 +8,25 @@ use Rattle.records.specs.declared.Rec.{Rec}
 use Rattle.indexing.specs.Columns.{switch_recs, new_lines_recs}
 use Rattle.index_writer.proofs.IndexLaws.{switch-some}
 use Rattle.indexing_builder.proofs.ExpansionLaws.{answer-none, answer-stored}
-use borrow.Author.Rules.{rules}
-use Rattle.indexing_builder.proofs.expansion.expand_switch.Goals.{After-new_lines_room, Start}
+use Rattle.indexing_builder.proofs.expansion.expand_switch.Goals.{After-new_lines_room}
 use Rattle.indexing_builder.proofs.expansion.expand_switch.Goals as goal
 
--- the switch and the new lines
-module _ (s : Start) where
-  abbrev switch : List Rec
-  switch = switch_recs s.args.leaders.now s.args.heads.now s.args.bits.now s.args.offs.now s.args.settings.dynamic s.args.t.arg (s.args.t.lines - s.args.t.line)
-  abbrev lines : List Rec
-  lines = new_lines_recs s.args.leaders.now s.args.heads.now s.args.opens.now s.args.offs.now s.args.tags.now s.args.settings s.args.t.arg s.args.t.lines
-  switch-one : 1 ≤ length switch
-  switch-one = switch-some s.args.leaders.now s.args.heads.now s.args.bits.now s.args.offs.now s.args.settings.dynamic s.args.t.arg (s.args.t.lines - s.args.t.line)
-_  = 
-
--- their rooms
-rooms : (c : After-new_lines_room)
-    → 
-    (c.switch_room-k.result ≡ length (switch c)) × (c.new_lines_room.result ≡ length (lines c)) × (1 ≤ length (switch c))
+-- the rooms of the switch and of the new lines
+rooms : (c : After-new_lines_room) → let a = c.args in
+    let switch : List Rec = switch_recs a.leaders.now a.heads.now a.bits.now a.offs.now a.settings.dynamic a.t.arg (a.t.lines - a.t.line) in
+    let lines : List Rec = new_lines_recs a.leaders.now a.heads.now a.opens.now a.offs.now a.tags.now a.settings a.t.arg a.t.lines in
+    (c.switch_room-k.result ≡ length switch) × (c.new_lines_room.result ≡ length lines) × (1 ≤ length switch)
 rooms c =
     let a = c.args in
-    (c.switch_room-k.ensures.by_index a.bits.now a.offs.now a.t.arg (a.t.lines - a.t.line), c.new_lines_room.ensures.by_index a.offs.now a.tags.now a.t.lines, switch-one c)
+    (c.switch_room-k.ensures.by_index a.bits.now a.offs.now a.t.arg (a.t.lines - a.t.line), c.new_lines_room.ensures.by_index a.offs.now a.tags.now a.t.lines, switch-some a.leaders.now a.heads.now a.bits.now a.offs.now a.settings.dynamic a.t.arg (a.t.lines - a.t.line))
 
 pub overflow_sub-k : goal.overflow_sub-k
 overflow_sub-k c =
     let a = c.args in
-    omega (arith, c.switch_room-k.ensures.by_index a.bits.now a.offs.now a.t.arg (a.t.lines - a.t.line), switch-one c)
+    omega (arith, c.switch_room-k.ensures.by_index a.bits.now a.offs.now a.t.arg (a.t.lines - a.t.line), switch-some a.leaders.now a.heads.now a.bits.now a.offs.now a.settings.dynamic a.t.arg (a.t.lines - a.t.line))
 
 pub returns-then-t-size : goal.returns-then-t-size
-returns-then-t-size c = record { answer = answer-none c.args.t.capacity _ (goal.at.returns-then-t-size c).Start (omega (arith, rooms (goal.at.returns-then-t-size c).After-new_lines_room, c.if-t-size)); leaves = refl }
+returns-then-t-size c = record { answer = answer-none c.args.t.capacity _ _ (omega (arith, rooms (goal.at.returns-then-t-size c).After-new_lines_room, c.if-t-size)); leaves = refl }
 
 pub write_switch-requires : goal.write_switch-requires
 write_switch-requires c =

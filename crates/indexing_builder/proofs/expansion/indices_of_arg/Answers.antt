@@ -2,7 +2,6 @@
 use native.Mathlib.Omega.{arith}
 use lib.ListN.{length-take}
 use Rattle.indexing_builder.proofs.ExpansionLaws.{expandable, expansion-is}
-use borrow.Author.Rules.{rules}
 use Rattle.indexing_builder.proofs.expansion.indices_of_arg.Goals as goal
 
 pub slice_bounds-expand_line-end : goal.slice_bounds-expand_line-end

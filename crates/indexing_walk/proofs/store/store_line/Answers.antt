@@ -1,7 +1,6 @@
 use native.Mathlib.Omega.{arith}
 use Rattle.indexing_walk.proofs.StandLaws.{AtDemand, within}
 use Rattle.indexing_walk.proofs.ExpandLaws.{read_count, read-offs, read-tags, Grows, demanded, grows}
-use borrow.Author.Rules.{rules}
 use Rattle.indexing_walk.proofs.store.store_line.Goals.{After-slice_known-6-1, Start}
 use Rattle.indexing_walk.proofs.store.store_line.Goals as goal
 
@@ -15,8 +14,11 @@ grown : (c : After-slice_known-6-1)
     let d = c.indices_of_arg-x in
     Grows a.code.now a.starts.now a.settings a.index.now a.w a.a d.new.index d.result
 grown c =
+    let a = c.args in
+    let due : AtDemand a.code.now a.starts.now a.settings a.index.now a.w a.a =
+        record { ready = record { checked = c.requires.starts_value; stands = c.requires.stands }; kind = c.requires.zero_rec_value.0; half = c.requires.zero_rec_value.1 } in
     let d = c.indices_of_arg-x in
-    grows (due c) c.capacity.result (λ i. omega (arith, c.shared_slice_known-1.given i)) (λ i. omega (arith, c.slice_known-1.given i))
+    grows due c.capacity.result (λ i. omega (arith, c.shared_slice_known-1.given i)) (λ i. omega (arith, c.slice_known-1.given i))
     c.requires.list_len.2 d.new.index d.result d.ensures
 
 pub read_choices-requires : goal.read_choices-requires

@@ -6,7 +6,6 @@ use lib.Seq.{length-take-le}
 use Rattle.indexing_walk.proofs.StandLaws.{AtDemand}
 use Rattle.indexing_walk.proofs.LineLaws.{place_in}
 use Rattle.indexing_walk.proofs.ExpandLaws.{read_count}
-use borrow.Author.Rules.{rules}
 use Rattle.indexing_walk.proofs.store.turn_store.Goals.{After-count_offsets-m, Start}
 use Rattle.indexing_walk.proofs.store.turn_store.Goals as goal
 
@@ -16,8 +15,12 @@ due s = record { ready = record { checked = s.requires.starts_value; stands = s.
 
 -- both lists have room for the offsets of its line
 few : (c : After-count_offsets-m) → c.count_offsets-m.result ≤ 1024
-few c =     let f = c.first_offset-q in
-    (read_count (due c) f.result c.count_offsets-m.result f.ensures.0 c.count_offsets-m.ensures.0).2
+few c =
+    let a = c.args in
+    let due : AtDemand a.code.now a.starts.now a.settings a.index.now a.w a.a =
+        record { ready = record { checked = c.requires.starts_value; stands = c.requires.stands }; kind = c.requires.zero_rec_value.0; half = c.requires.zero_rec_value.1 } in
+    let f = c.first_offset-q in
+    (read_count due f.result c.count_offsets-m.result f.ensures.0 c.count_offsets-m.ensures.0).2
 
 in_list : (c : After-count_offsets-m) → c.count_offsets-m.result ≤ length c.args.list.now
 in_list c = omega (arith, few c, c.requires.list_len.0)

@@ -4,7 +4,6 @@ use lib.ListN.{take}
 use Rattle.records.specs.Records.{records_of}
 use Rattle.indexing_scan.specs.Places.{offsets_at}
 use Rattle.indexing_walk.proofs.FollowLaws.{ended_at, copied_at}
-use borrow.Author.Rules.{rules}
 use Rattle.indexing_walk.proofs.turns.end_line.Goals as goal
 
 pub returns-then-line-eq0 : goal.returns-then-line-eq0

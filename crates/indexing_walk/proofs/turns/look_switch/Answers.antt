@@ -2,7 +2,6 @@ use mathlib.Core.Path.{refl, ◌∙◌}
 use lib.ListN.{take}
 use Rattle.records.specs.Records.{records_of}
 use Rattle.indexing_walk.proofs.FollowLaws.{looked, led-choice}
-use borrow.Author.Rules.{rules}
 use Rattle.indexing_walk.proofs.turns.look_switch.Goals as goal
 
 pub returns-in-Nothing : goal.returns-in-Nothing

@@ -1,7 +1,6 @@
 use mathlib.Core.Path.{◌∙◌, ap}
 use Prim.Native.Nat.{ℕ}
 use Rattle.indexing_walk.specs.Walking.{moved_to}
-use borrow.Author.Rules.{rules}
 use Rattle.indexing_walk.proofs.turns.pass_table.Goals as goal
 
 pub returns : goal.returns

@@ -9,8 +9,6 @@ use Rattle.indexing_walk.proofs.TurnLaws.{AtTable, turn-open}
 use Rattle.indexing_walk.proofs.ReadyLaws.{small, table-range, to-pass}
 use Rattle.indexing_walk.proofs.LineLaws.{place_in}
 use Rattle.indexing_walk.proofs.NarrowLaws.{end-room, turn_end}
-use borrow.Author.Tests.{not-true, not-false}
-use borrow.Author.Rules.{rules}
 use Rattle.indexing_walk.proofs.turns.turn.Goals.{Else-not-is_table, Start, Then-not-is_table}
 use Rattle.indexing_walk.proofs.turns.turn.Goals as goal
 
@@ -20,17 +18,18 @@ ready s = record { checked = s.requires.starts_value; stands = s.requires.stands
 
 -- the record at its place is no table's
 no_table : (c : Then-not-is_table) → is_table c.record_in-r.result.kind ≡ false
-no_table c = sym c.is_table.ensures ∙ not-true c.is_table.result c.if-not-is_table.true
+no_table c = sym c.is_table.ensures ∙ c.if-not-is_table.true
 
 -- it is a table's
 is_one : (c : Else-not-is_table) → is_table c.record_in-r.result.kind ≡ true
-is_one c = sym c.is_table.ensures ∙ not-false c.is_table.result c.if-not-is_table.false
+is_one c = sym c.is_table.ensures ∙ c.if-not-is_table.false
 
 table : (c : Else-not-is_table)
     → let a = c.args in
     AtTable a.code.now a.starts.now a.settings a.index.now a.w c.record_in-r.result.half
-table c =     let is = c.record_in-r.ensures in
-    record { ready = ready c; half = ap (λ x. x.half) is; table = ap (λ x. is_table x.kind) (sym is) ∙ is_one c }
+table c =
+    let is = c.record_in-r.ensures in
+    record { ready = record { checked = c.requires.starts_value; stands = c.requires.stands }; half = ap (λ x. x.half) is; table = ap (λ x. is_table x.kind) (sym is) ∙ is_one c }
 
 pub record_in-r-requires : goal.record_in-r-requires
 record_in-r-requires c = (place_in (ready (goal.at.record_in-r-requires c).Start)).1

@@ -6,29 +6,28 @@ use Rattle.indexing_walk.proofs.StandLaws.{AtDemand}
 use Rattle.indexing_walk.proofs.TurnLaws.{AtTable, turn-dead, turn-switch}
 use Rattle.indexing_walk.proofs.ReadyLaws.{small, third-kind, table-range, to-pass}
 use Rattle.indexing_walk.proofs.LineLaws.{place_in, arity-32}
-use borrow.Author.Rules.{rules}
 use Rattle.indexing_walk.proofs.turns.turn_bound.Goals.{Else-kind-eq2, Start}
 use Rattle.indexing_walk.proofs.turns.turn_bound.Goals as goal
 
 -- the walk is at a table, in checked code
 table : (s : Start) → AtTable s.args.code.now s.args.starts.now s.args.settings s.args.index.now s.args.w s.args.a
-table s =     let at = s.requires.1.1.1.1 in
-    record { ready = record { checked = s.requires.starts_value; stands = s.requires.stands }; half = at.0.1; table = ap is_table (sym at.0.0) ∙ at.1.0 }
+table s =
+    record { ready = record { checked = s.requires.starts_value; stands = s.requires.stands }; half = s.requires.kind_value.1; table = ap is_table (sym s.requires.kind_value.0) ∙ s.requires.kind_value_2.0 }
 
 -- neither dead nor a switch: on demand
 due : (c : Else-kind-eq2)
     → let a = c.args in AtDemand a.code.now a.starts.now a.settings a.index.now a.w a.a
 due c =
-    let at = c.requires.1.1.1.1 in
-    record { ready = (table c).ready; kind = sym at.0.0 ∙ third-kind c.args.kind at.1.0 c.if-kind-eq4.false c.if-kind-eq2.false; half = at.0.1 }
+    let at = c.requires.kind_value in
+    record { ready = record { checked = c.requires.starts_value; stands = c.requires.stands }; kind = sym at.0 ∙ third-kind c.args.kind c.requires.kind_value_2.0 c.if-kind-eq4.false c.if-kind-eq2.false; half = at.1 }
 
 pub pass_table-requires : goal.pass_table-requires
 pass_table-requires c = to-pass (table (goal.at.pass_table-requires c).Start)
 
 pub returns-then-kind-eq4 : goal.returns-then-kind-eq4
 returns-then-kind-eq4 c =
-    let at = c.requires.1.1.1.1 in
-    turn-dead (table (goal.at.returns-then-kind-eq4 c).Start) c.args.call.now c.args.q at.1.1 at.1.2 (sym at.0.0 ∙ c.if-kind-eq4.true) c.pass_table.result c.pass_table.ensures
+    let at = c.requires.kind_value_2 in
+    turn-dead (table (goal.at.returns-then-kind-eq4 c).Start) c.args.call.now c.args.q at.1 at.2 (sym c.requires.kind_value.0 ∙ c.if-kind-eq4.true) c.pass_table.result c.pass_table.ensures
 
 pub look_switch-x-requires : goal.look_switch-x-requires
 look_switch-x-requires c = let t = table (goal.at.look_switch-x-requires c).Start in
@@ -40,10 +39,10 @@ turn_by-requires c =
 
 pub returns-then-kind-eq2 : goal.returns-then-kind-eq2
 returns-then-kind-eq2 c =
-    let at = c.requires.1.1.1.1 in
+    let at = c.requires.kind_value_2 in
     let l = c.look_switch-x in
     let d = c.turn_by in
-    turn-switch (table (goal.at.returns-then-kind-eq2 c).Start) c.args.call.now c.args.q at.1.1 at.1.2 (sym at.0.0 ∙ c.if-kind-eq2.true)
+    turn-switch (table (goal.at.returns-then-kind-eq2 c).Start) c.args.call.now c.args.q at.1 at.2 (sym c.requires.kind_value.0 ∙ c.if-kind-eq2.true)
     d.new.list l.result l.ensures d.ensures.listed_by d.result d.ensures.value
 
 pub turn_store-requires : goal.turn_store-requires

@@ -5,10 +5,10 @@ use borrow.Author.Rules.{rules}
 use Rattle.indexing_walk.proofs.turns.turn_by.Goals as goal
 
 pub returns-in-Failed : goal.returns-in-Failed
-returns-in-Failed c = rw c.in-Failed.is (ap Done c.end_with.ensures, tt)
+returns-in-Failed c = rw c.in-Failed.is (record { value = ap Done c.end_with.ensures; listed_by = tt })
 
 pub returns-in-External : goal.returns-in-External
-returns-in-External c = rw c.in-External.is (ap Done c.end_with-in-External.ensures, put_front c.args.list.now c.in-External.o (search rules))
+returns-in-External c = rw c.in-External.is (record { value = ap Done c.end_with-in-External.ensures; listed_by = put_front c.args.list.now c.in-External.o (search rules) })
 
 pub returns-in-Enter : goal.returns-in-Enter
-returns-in-Enter c = rw c.in-Enter.is (ap On c.moved_to.ensures, tt)
+returns-in-Enter c = rw c.in-Enter.is (record { value = ap On c.moved_to.ensures; listed_by = tt })

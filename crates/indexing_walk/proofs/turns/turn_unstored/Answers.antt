@@ -28,18 +28,24 @@ due s =     let at = s.requires.zero_rec_value in
 read : (c : After-read_line-m)
     → let a = c.args in LineRead a.starts.now a.index.now a.w c.read_line-m.result c.read_line-m.new.list
 read c =
+    let a = c.args in
+    let due : AtDemand a.code.now a.starts.now a.settings a.index.now a.w a.a =
+        record { ready = record { checked = c.requires.starts_value; stands = c.requires.stands }; kind = c.requires.zero_rec_value.0; half = c.requires.zero_rec_value.1 } in
     let r = c.read_line-m in
-    line_read (due c).ready r.result r.new.list c.args.list.now r.ensures.0 r.ensures.1
+    line_read due.ready r.result r.new.list c.args.list.now r.ensures.0 r.ensures.1
 
 -- and narrowed at the table's argument
 narrowed : (c : After-demand_at-x)
     → let a = c.args in
     Narrows a.code.now a.starts.now a.settings a.call.now a.index.now a.w a.a c.demand_at-x.new.clauses c.demand_at-x.result
 narrowed c =
+    let a = c.args in
+    let due : AtDemand a.code.now a.starts.now a.settings a.index.now a.w a.a =
+        record { ready = record { checked = c.requires.starts_value; stands = c.requires.stands }; kind = c.requires.zero_rec_value.0; half = c.requires.zero_rec_value.1 } in
     let r = c.read_line-m in
     let d = c.demand_at-x in
-    narrows (due c) c.args.call.now c.args.q c.requires.q_value.0 c.requires.q_value.1 c.requires.list_len.1
-    d.new.clauses r.new.list r.result d.result (read c) d.ensures.clauses_after d.ensures.held
+    narrows due c.args.call.now c.args.q c.requires.q_value.0 c.requires.q_value.1 c.requires.list_len.1
+    d.new.clauses r.new.list r.result d.result (line_read due.ready r.result r.new.list c.args.list.now r.ensures.0 r.ensures.1) d.ensures.clauses_after d.ensures.held
 
 -- the list is as long as it was
 same-list : (c : After-demand_at-x) → length c.demand_at-x.new.clauses ≡ length c.args.list.now
@@ -78,9 +84,9 @@ pub finish-f-requires : goal.finish-f-requires
 finish-f-requires c =
     let d = c.demand_at-x in
     let new = d.new.clauses in
-    let x = c.x-1.given in
-    let k : x.0.1.0 ≤ c.read_line-m.result = rw x.1 at d.ensures.held.within in
-    let o : every (known c.args.starts.now) (take x.0.1.0 new) ≡ true = rw x.1 at d.ensures.held.offsets in
+    let x = c.in-Bucket in
+    let k : x.k ≤ c.read_line-m.result = rw x.is at d.ensures.held.within in
+    let o : every (known c.args.starts.now) (take x.k new) ≡ true = rw x.is at d.ensures.held.offsets in
     record {
       starts_value = c.requires.starts_value;
       call_value = c.requires.call_value;
