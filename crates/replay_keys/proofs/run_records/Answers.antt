@@ -3,8 +3,8 @@ use borrow.Author.Rules.{rules}
 use mathlib.Core.Path.{refl}
 use Rattle.replay_keys.proofs.run_records.Goals as goal
 
-pub show_records-requires : goal.show_records-requires
-show_records-requires c = record {
-      le_n = search rules;
-      code_len = refl;
-    }
+pub slice_bounds-show_records-end : goal.slice_bounds-show_records-end
+slice_bounds-show_records-end c = ?
+
+pub show_records-requires-clause-code_len : goal.show_records-requires-clause-code_len
+show_records-requires-clause-code_len c = ?

@@ -4,10 +4,6 @@ use Rattle.indexing_iter.specs.Classes.{class_of}
 use Rattle.indexing_iter.proofs.CheckLaws.{code-arity}
 use Rattle.replay_keys.proofs.show_clause.Goals as goal
 
-slice-aggregate-collect-opt-arg-index-keys-2 :
-    tie.Need-slice-aggregate-collect-opt-arg-index-keys-2
-slice-aggregate-collect-opt-arg-index-keys-2 c = search rules
-
 pub collect_opt_arg_index_keys-requires : goal.collect_opt_arg_index_keys-requires
 collect_opt_arg_index_keys-requires c =
     let t = code-arity class_of c.args.arity c.args.code.now c.args.starts.now (search rules) in
