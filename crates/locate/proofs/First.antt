@@ -1,5 +1,5 @@
 -- The fault is the first: what `fault_of` gives says what specs/First tells of it. Holds for any class function. Assumes nothing.
-use Prim.Native.Nat.{ℕ, zero, suc, ◌+◌, ◌-◌, ◌≤◌, ◌<◌}
+use Prim.Native.Nat.{ℕ, zero, suc, ◌+◌, ◌≤◌, ◌<◌}
 use mathlib.Core.Path.{◌≡◌, refl, sym, ap, ◌∙◌, subst}
 use mathlib.Core.Bool.{Bool, true, false, cond, ◌||◌, false≢true}
 use mathlib.Core.List.{List, [], ◌∷◌}
@@ -7,9 +7,9 @@ use mathlib.Core.Logic.{◌⊎◌, inl, inr}
 use native.Mathlib.Nat.{le_of_suc-le-suc, not-suc-le-zero}
 use native.Mathlib.Omega.{arith}
 use borrow.Author.Tests.{eq-eqb, ne_eqb, lt-ltb, le-ltb}
-use lib.Dec.{eqb, ltb}
+use lib.Dec.{eqb}
 use lib.ListN.{length, get_or, take, drop}
-use lib.Seq.{slice, length-slice}
+use lib.Seq.{length-slice}
 use Rattle.records.specs.declared.Rec.{Rec}
 use Rattle.records.specs.Records.{records_of, zero_rec}
 use Rattle.indexing_iter.specs.declared.InstructionArg.{InstructionArg}
@@ -21,11 +21,11 @@ use Rattle.indexing_iter.specs.declared.Fault.{Fault}
 use Rattle.indexing_iter.specs.Classes.{instruction_arg}
 use Rattle.indexing_iter.specs.Keys.{key_in, is_open}
 use Rattle.indexing_iter.specs.Clauses.{end_of, clauses_of}
-use Rattle.indexing_iter.specs.Checks.{number_of, otherwise, refuse, rising_below, is_body, has_body, record_bad, register_bad, register_step, check_records, check_clause, check_clauses, check_keyed, open_somewhere}
-use Rattle.indexing_iter.specs.Faults.{first_at, is_refused, refused_at, open_at, bad_at, body_at, record_for, clause_for, bare, fault_at, fault_by, check_with, fault_of}
-use Rattle.indexing_iter.proofs.CheckLaws.{end_below, rising-head, rising-drop}
+use Rattle.indexing_iter.specs.Checks.{number_of, otherwise, refuse, is_body, has_body, record_bad, register_bad, register_step, check_records, check_clause, check_clauses, open_somewhere}
+use Rattle.indexing_iter.specs.Faults.{first_at, is_refused, refused_at, open_at, body_at, record_for, clause_for, bare, fault_at, fault_by, check_with, fault_of}
+use Rattle.indexing_iter.proofs.CheckLaws.{end_below, rising-drop}
 use Rattle.indexing_iter.proofs.Numbers.{Within, records-number, clause-number}
-use Rattle.locate.specs.Inner.{check_front, check_back}
+use Rattle.locate.specs.Inner.{check_front}
 use Rattle.locate.specs.First.{FirstRefused, FirstOpen, LastOf, FirstBad, FirstBody, FirstAtFault}
 use Rattle.locate.proofs.LocateLaws.{bad_from, bad_step, bad-cons, bad-whole, front-number, front-passed, in_order, length-clauses, clause-is, clause-some}
 

@@ -21,8 +21,8 @@ use Rattle.indexing_iter.specs.declared.Fault.{Fault}
 use Rattle.indexing_iter.specs.Classes.{arg_of_class, instruction_arg}
 use Rattle.indexing_iter.specs.Keys.{key_in, is_open}
 use Rattle.indexing_iter.specs.Clauses.{end_of, clauses_of}
-use Rattle.indexing_iter.specs.Checks.{number_of, otherwise, refuse, rising_below, is_body, has_body, record_bad, register_bad, register_step, check_records, check_clause, check_clauses, open_somewhere, check_arity, check_chosen, check_size, check_starts, check_keyed, check_clauses_of, check_code, check_build}
-use Rattle.indexing_iter.specs.Faults.{first_at, fronts, is_refused, refused_at, open_at, bad_at, body_at, bare, fault_at, fault_by, check_with, fault_of}
+use Rattle.indexing_iter.specs.Checks.{number_of, otherwise, rising_below, record_bad, register_bad, register_step, check_records, check_clause, check_clauses, open_somewhere, check_arity, check_chosen, check_size, check_starts, check_keyed, check_clauses_of, check_code, check_build}
+use Rattle.indexing_iter.specs.Faults.{first_at, fronts, is_refused, refused_at, open_at, bad_at, bare, fault_at, fault_by, check_with, fault_of}
 use Rattle.indexing_iter.proofs.Parts.{slice-step, slice-done}
 use Rattle.indexing_iter.proofs.CheckLaws.{drop-step, rising-head, rising-drop, passed-both, arity-passed, chosen-passed, rising-passed}
 use Rattle.indexing_iter.proofs.Numbers.{Within, within-cond, within-otherwise, within-refuse, clause-number}

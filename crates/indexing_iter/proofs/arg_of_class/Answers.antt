@@ -1,7 +1,6 @@
 -- What a record of a class says of an argument. Assumes nothing.
 use borrow.Author.Tests.{eq-eqb, ne_eqb, le-leb, lt-leb}
 use Rattle.indexing_iter.specs.Classes.{arg_of_class}
-use borrow.Author.Rules.{rules}
 use Rattle.indexing_iter.proofs.arg_of_class.Goals as goal
 
 pub returns-then-class-eq1 : goal.returns-then-class-eq1

@@ -1,10 +1,8 @@
 -- After i turns the first i numbers of both lists are cleared. Assumes nothing.
-use Prim.Native.Nat.{◌-◌, ◌≤◌}
 use mathlib.Core.Path.{◌≡◌, ◌∙◌}
-use lib.ListN.{length}
 use native.Mathlib.Omega.{arith}
 use borrow.Author.Rules.{rules}
-use Rattle.indexing_iter.proofs.FillLaws.{cleared, cleared-none, cleared_more, cleared-all}
+use Rattle.indexing_iter.proofs.FillLaws.{cleared-none, cleared_more, cleared-all}
 use Rattle.indexing_iter.proofs.clear_keys.Goals as goal
 
 pub loop-i-init : goal.loop-i-init

@@ -1,9 +1,7 @@
 use Prim.Native.Nat.{◌-◌, ◌≤◌}
-use mathlib.Core.Path.{◌≡◌, ◌∙◌}
+use mathlib.Core.Path.{◌≡◌}
 use lib.ListN.{length}
-use native.Mathlib.Omega.{arith}
-use borrow.Author.Rules.{rules}
-use Rattle.indexing_iter.proofs.FillLaws.{cleared, cleared-none, cleared_more, cleared-all}
+use Rattle.indexing_iter.proofs.FillLaws.{cleared}
 use Rattle.indexing_iter.proofs.clear_keys.Given as goal
 
 abbrev pub invariant-loop-i : goal.invariant-loop-i

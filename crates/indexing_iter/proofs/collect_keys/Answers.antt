@@ -12,13 +12,13 @@ use Rattle.indexing_iter.specs.Rows.{head_of}
 use Rattle.indexing_iter.proofs.Table.{class_in}
 use Rattle.indexing_iter.proofs.Parts.{slice-step, slice-done}
 use Rattle.indexing_iter.proofs.KeyLaws.{known-within}
-use Rattle.indexing_iter.proofs.FillLaws.{collected, collected-cleared, Filling, FillingStep, filling-start, filling_step, filling-end, filling-as}
+use Rattle.indexing_iter.proofs.FillLaws.{collected, collected-cleared, FillingStep, filling-start, filling_step, filling-end, filling-as}
 use Rattle.indexing_iter.proofs.collect_keys.Goals.{After-extract_index_arg-a, in-ArgedHead-a, in_default-a}
 use Rattle.indexing_iter.proofs.collect_keys.Goals as goal
 
 -- in a turn: what the record at i says of the lists
 turn : (c : After-extract_index_arg-a)
-    → 
+    →
     let a = c.args in
     FillingStep c.extract_index_arg-a.result (class_in a.table.now) a.arity (slice (c.loop-i.i + 1) c.capacity-end.result (records_of a.code.now))
     c.loop-i.heads c.loop-i.bits
@@ -68,22 +68,23 @@ loop-i-preserved c =
     let l = c.loop-i in
     let here = turn (goal.at.loop-i-preserved c).After-extract_index_arg-a in
     elim c.match-a-2.branch [
-      in-ArgedHead-a w ↦
-      let n = w.in-ArgedHead-a.reg - 1 in
-      let k = rw w.in-ArgedHead-a.is at here in
-      let h : c.match-a-2.heads ≡ set l.heads n (head_of w.in-ArgedHead-a.key) = w.heads-is ∙ ap (set l.heads n) w.head_of.ensures.0 in
-      let b : c.match-a-2.bits ≡ set l.bits n (bits_of w.in-ArgedHead-a.key) = w.bits-is ∙ ap (set l.bits n) w.bits_of.ensures in (
-        ap length h ∙ length-set l.heads n _ ∙ l.invariant.0,
-        ap length b ∙ length-set l.bits n _ ∙ l.invariant.1,
-        filling-as c.match-a-2.heads c.match-a-2.bits h b k.2,
+      | in-ArgedHead-a w ↦
+          let n = w.in-ArgedHead-a.reg - 1 in
+          let k = rw w.in-ArgedHead-a.is at here in
+          let h : c.match-a-2.heads ≡ set l.heads n (head_of w.in-ArgedHead-a.key) = w.heads-is ∙ ap (set l.heads n) w.head_of.ensures.0 in
+          let b : c.match-a-2.bits ≡ set l.bits n (bits_of w.in-ArgedHead-a.key) = w.bits-is ∙ ap (set l.bits n) w.bits_of.ensures in (
+            ap length h ∙ length-set l.heads n _ ∙ l.invariant.0,
+            ap length b ∙ length-set l.bits n _ ∙ l.invariant.1,
+            filling-as c.match-a-2.heads c.match-a-2.bits h b k.2,
+          )
+      | in_default-a w ↦ (
+        ap length w.heads-is ∙ l.invariant.0,
+        ap length w.bits-is ∙ l.invariant.1,
+        filling-as c.match-a-2.heads c.match-a-2.bits w.heads-is w.bits-is
+            (⊎_elim (λ v. absurd (w.in_default-a.not-ArgedHead v.0 v.1 v.2))
+            (λ v. ⊎_elim (λ e. rw e at here) (λ e. rw e at here) v)
+            c.in-ArgedHead.is),
       )
-    | in_default-a w ↦
-      (ap length w.heads-is ∙ l.invariant.0,
-      ap length w.bits-is ∙ l.invariant.1,
-      filling-as c.match-a-2.heads c.match-a-2.bits w.heads-is w.bits-is
-      (⊎_elim (λ v. absurd (w.in_default-a.not-ArgedHead v.0 v.1 v.2))
-      (λ v. ⊎_elim (λ e. rw e at here) (λ e. rw e at here) v)
-      c.in-ArgedHead.is))
     ]
 
 pub returns : goal.returns

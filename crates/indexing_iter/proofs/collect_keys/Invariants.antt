@@ -1,17 +1,12 @@
-use Prim.Native.Nat.{◌-◌, ◌+◌}
-use mathlib.Core.Path.{◌≡◌, ap, ◌∙◌}
-use mathlib.Core.Logic.{⊎_elim}
-use native.Mathlib.Omega.{arith}
-use lib.ListN.{length, get_or, set, length-set}
+use Prim.Native.Nat.{◌-◌}
+use mathlib.Core.Path.{◌≡◌}
+use lib.ListN.{length}
 use lib.Seq.{slice}
-use borrow.Author.Rules.{rules}
-use Rattle.records.specs.Records.{records_of, zero_rec}
+use Rattle.records.specs.Records.{records_of}
 use Rattle.indexing_iter.specs.Keys.{bits_of}
 use Rattle.indexing_iter.specs.Rows.{head_of}
 use Rattle.indexing_iter.proofs.Table.{class_in}
-use Rattle.indexing_iter.proofs.Parts.{slice-step, slice-done, read-over}
-use Rattle.indexing_iter.proofs.KeyLaws.{known-within}
-use Rattle.indexing_iter.proofs.FillLaws.{collected, collected-cleared, Filling, FillingStep, filling-start, filling_step, filling-end, filling-as}
+use Rattle.indexing_iter.proofs.FillLaws.{collected, Filling}
 use Rattle.indexing_iter.proofs.collect_keys.Given as goal
 
 abbrev pub invariant-loop-i : goal.invariant-loop-i

@@ -1,5 +1,5 @@
 -- The key at an argument: the records left give the key that the whole run gives. Assumes nothing.
-use Prim.Native.Nat.{◌-◌, ◌+◌}
+use Prim.Native.Nat.{◌+◌}
 use mathlib.Core.Path.{◌≡◌}
 use borrow.Author.Rules.{rules}
 use borrow.Author.Tests.{eq-eqb, ne_eqb}
@@ -19,7 +19,7 @@ turn : (c : After-extract_index_arg-a)
     key_step c.extract_index_arg-a.result a.j (key_in (class_in a.table.now) (slice (i + 1) a.end (records_of a.code.now)) a.j)
     ≡ key_in (class_in a.table.now) (slice a.start a.end (records_of a.code.now)) a.j
 unfolding key_in
-turn c =     let a = c.args in
+turn c = let a = c.args in
     rw (slice-step (records_of a.code.now) _ _ c.loop-i-test.true (search rules), ← c.extract_index_arg-a.ensures)
     at c.loop-i.invariant
 
@@ -33,11 +33,11 @@ pub loop-i-preserved : goal.loop-i-preserved
 loop-i-preserved c =
     let here = turn (goal.at.loop-i-preserved c).After-extract_index_arg-a in
     elim c.match-a-2.branch [
-      in-ArgedHead-a+else-reg-j w ↦ rw (w.in-ArgedHead-a.is, ne_eqb _ _ w.if-reg-j.false) at here
-    | in_default-a w ↦ 
-      ⊎_elim (λ v. absurd (w.in_default-a.not-ArgedHead v.0 v.1 v.2))
-      (λ v. ⊎_elim (λ e. rw e at here) (λ e. rw e at here) v)
-      c.in-ArgedHead.is
+      | in-ArgedHead-a+else-reg-j w ↦ rw (w.in-ArgedHead-a.is, ne_eqb _ _ w.if-reg-j.false) at here
+      | in_default-a w ↦
+          ⊎_elim (λ v. absurd (w.in_default-a.not-ArgedHead v.0 v.1 v.2))
+          (λ v. ⊎_elim (λ e. rw e at here) (λ e. rw e at here) v)
+          c.in-ArgedHead.is
     ]
 
 pub returns : goal.returns

@@ -1,12 +1,8 @@
-use Prim.Native.Nat.{◌-◌, ◌+◌}
+use Prim.Native.Nat.{◌-◌}
 use mathlib.Core.Path.{◌≡◌}
-use borrow.Author.Rules.{rules}
-use borrow.Author.Tests.{eq-eqb, ne_eqb}
-use mathlib.Core.Logic.{⊎_elim}
 use lib.Seq.{slice}
 use Rattle.records.specs.Records.{records_of}
-use Rattle.indexing_iter.specs.Keys.{key_in, key_step}
-use Rattle.indexing_iter.proofs.Parts.{slice-step, slice-done, read-over}
+use Rattle.indexing_iter.specs.Keys.{key_in}
 use Rattle.indexing_iter.proofs.Table.{class_in}
 use Rattle.indexing_iter.proofs.key_by.Given as goal
 

@@ -10,7 +10,6 @@ use Rattle.records.specs.Records.{records_of}
 use Rattle.indexing_iter.specs.Classes.{class_of}
 use Rattle.indexing_iter.specs.Keys.{key_in}
 use Rattle.indexing_iter.proofs.KeyLaws.{known-within, key-on}
-use borrow.Author.Rules.{rules}
 use Rattle.indexing_iter.proofs.key_of.Goals as goal
 
 pub overflow_sub-start : goal.overflow_sub-start

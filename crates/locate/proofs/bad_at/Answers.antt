@@ -1,5 +1,5 @@
 -- 6 and 7 record by record: the first of the records left, after the last register, is the first of all. Assumes nothing.
-use Prim.Native.Nat.{◌-◌, ◌+◌, ◌≤◌}
+use Prim.Native.Nat.{◌-◌, ◌+◌}
 use mathlib.Core.Path.{◌≡◌}
 use mathlib.Core.Bool.{false}
 use mathlib.Core.Logic.{⊎_elim}
@@ -16,7 +16,7 @@ use Rattle.locate.proofs.bad_at.Goals as goal
 
 -- in a turn: the record at i, and then those after it
 bad : (c : After-record_bad)
-    → 
+    →
     let a = c.args in
     let rs = records_of a.code.now in
     let cls = class_in a.table.now in
@@ -32,7 +32,7 @@ bad c =
     rw (step, ← c.record_bad.ensures) at c.loop-i.invariant.1
 
 turn : (c : After-arg_of_class-a)
-    → 
+    →
     let a = c.args in
     let rs = records_of a.code.now in
     let cls = class_in a.table.now in
@@ -63,14 +63,15 @@ pub loop-i-preserved : goal.loop-i-preserved
 loop-i-preserved c =
     let here = turn (goal.at.loop-i-preserved c).After-arg_of_class-a in
     elim c.match-a-2.branch [
-      in-ArgedHead-a+else-register_bad w ↦
-      rw w.last-is (search rules, omega (arith, rw (w.in-ArgedHead-a.is, ← w.register_bad.ensures, w.if-register_bad.false) at here))
-    | in_default-a w ↦
-      rw w.last-is
-      (search rules,
-      ⊎_elim (λ v. absurd (w.in_default-a.not-ArgedHead v.0 v.1 v.2))
-      (λ v. ⊎_elim (λ e. omega (arith, rw e at here)) (λ e. omega (arith, rw e at here)) v)
-      c.in-ArgedHead.is)
+      | in-ArgedHead-a+else-register_bad w ↦
+          rw w.last-is (search rules, omega (arith, rw (w.in-ArgedHead-a.is, ← w.register_bad.ensures, w.if-register_bad.false) at here))
+      | in_default-a w ↦
+          rw w.last-is (
+            search rules,
+            ⊎_elim (λ v. absurd (w.in_default-a.not-ArgedHead v.0 v.1 v.2))
+                (λ v. ⊎_elim (λ e. omega (arith, rw e at here)) (λ e. omega (arith, rw e at here)) v)
+                c.in-ArgedHead.is,
+          )
     ]
 
 pub returns : goal.returns

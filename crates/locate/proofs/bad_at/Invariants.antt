@@ -1,16 +1,10 @@
 use Prim.Native.Nat.{◌-◌, ◌+◌, ◌≤◌}
 use mathlib.Core.Path.{◌≡◌}
-use mathlib.Core.Bool.{false}
-use mathlib.Core.Logic.{⊎_elim}
-use native.Mathlib.Omega.{arith}
 use lib.Seq.{slice}
-use borrow.Author.Rules.{rules}
 use Rattle.records.specs.Records.{records_of}
-use Rattle.indexing_iter.specs.Classes.{arg_of_class}
 use Rattle.indexing_iter.specs.Faults.{bad_at}
 use Rattle.indexing_iter.proofs.Table.{class_in}
-use Rattle.indexing_iter.proofs.Parts.{read-over}
-use Rattle.locate.proofs.LocateLaws.{bad_from, bad_step, bad-whole, bad-step, bad-end}
+use Rattle.locate.proofs.LocateLaws.{bad_from}
 use Rattle.locate.proofs.bad_at.Given as goal
 
 abbrev pub invariant-loop-i : goal.invariant-loop-i

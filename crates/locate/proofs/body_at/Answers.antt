@@ -1,5 +1,5 @@
 -- The first body record: the first of the records left is the first of all. Assumes nothing.
-use Prim.Native.Nat.{suc, ◌-◌, ◌+◌, ◌≤◌}
+use Prim.Native.Nat.{suc, ◌+◌}
 use mathlib.Core.Path.{◌≡◌}
 use mathlib.Core.Bool.{cond}
 use mathlib.Core.Logic.{⊎_elim}
@@ -18,7 +18,7 @@ use Rattle.locate.proofs.body_at.Goals as goal
 
 -- in a turn: whether the record at i is a body record, and then those after it
 turn : (c : After-extract_index_arg-a)
-    → 
+    →
     let a = c.args in
     let rs = records_of a.code.now in
     let cls = class_in a.table.now in
@@ -34,11 +34,12 @@ returns-in_default c = omega (arith, rw c.in_default.is at (turn (goal.at.return
 
 pub loop-i-preserved : goal.loop-i-preserved
 loop-i-preserved c =
-    let here = turn (goal.at.loop-i-preserved c).After-extract_index_arg-a in
-    (search rules,
-    ⊎_elim (λ w. omega (arith, rw w.2 at here))
-    (λ w. ⊎_elim (λ e. omega (arith, rw e at here)) (λ e. omega (arith, rw e at here)) w)
-    c.in-ArgedHead.is)
+    let here = turn (goal.at.loop-i-preserved c).After-extract_index_arg-a in (
+      search rules,
+      ⊎_elim (λ w. omega (arith, rw w.2 at here))
+          (λ w. ⊎_elim (λ e. omega (arith, rw e at here)) (λ e. omega (arith, rw e at here)) w)
+          c.in-ArgedHead.is,
+    )
 
 pub returns : goal.returns
 returns c = let a = c.args in

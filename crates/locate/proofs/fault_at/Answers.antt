@@ -1,7 +1,6 @@
 -- The clause at k, and its record. Assumes nothing.
 use Prim.Native.Nat.{◌+◌}
 use mathlib.Core.Path.{refl}
-use native.Mathlib.Omega.{arith}
 use lib.ListN.{length}
 use Rattle.records.specs.Records.{records_of}
 use Rattle.indexing_iter.proofs.CheckLaws.{end-within}

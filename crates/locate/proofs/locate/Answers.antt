@@ -16,7 +16,7 @@ use Rattle.locate.proofs.locate.Goals as goal
 passed : (c : In-Passed)
     → let a = c.args in
     (a.c ≤ 32) × (rising_below (length (records_of a.code.now)) a.starts.now ≡ true)
-passed c =     let a = c.args in
+passed c = let a = c.args in
     front-passed a.arity a.c a.code.now a.starts.now (sym c.check_front-a.ensures ∙ c.in-Passed.is)
 
 pub returns-in_default : goal.returns-in_default

@@ -1,15 +1,11 @@
 -- The first clause that is refused, or else the first that is open at c. Assumes nothing.
-use Prim.Native.Nat.{◌≤◌}
-use mathlib.Core.Path.{◌≡◌, refl, sym, ◌∙◌}
-use mathlib.Core.Bool.{Bool, true, false, false≢true}
+use mathlib.Core.Path.{sym, ◌∙◌}
+use mathlib.Core.Bool.{true, false, false≢true}
 use native.Mathlib.Omega.{arith}
 use borrow.Author.Tests.{eq-eqb, ne_eqb}
-use lib.ListN.{length}
 use Rattle.records.specs.Records.{records_of}
-use Rattle.indexing_iter.specs.Clauses.{clauses_of}
 use Rattle.indexing_iter.proofs.Table.{class_in}
 use Rattle.locate.proofs.LocateLaws.{length-clauses, told-refused, told-open, told_none}
-use borrow.Author.Rules.{rules}
 use Rattle.locate.proofs.locate_back.Goals as goal
 
 pub returns-then-k-starts : goal.returns-then-k-starts

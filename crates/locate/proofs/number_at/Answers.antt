@@ -1,6 +1,5 @@
 -- The clause at k is checked. Assumes nothing.
 use Prim.Native.Nat.{◌+◌}
-use native.Mathlib.Omega.{arith}
 use lib.ListN.{length}
 use Rattle.records.specs.Records.{records_of}
 use Rattle.indexing_iter.proofs.CheckLaws.{end-within}

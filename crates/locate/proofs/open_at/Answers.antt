@@ -1,5 +1,5 @@
 -- 8 clause by clause: the first of the clauses left is the first of all. Assumes nothing.
-use Prim.Native.Nat.{◌-◌, ◌+◌}
+use Prim.Native.Nat.{◌+◌}
 use mathlib.Core.Path.{◌≡◌}
 use native.Mathlib.Omega.{arith}
 use lib.ListN.{length, drop}
@@ -18,7 +18,7 @@ use Rattle.locate.proofs.open_at.Goals as goal
 
 -- in a turn: the clause at i, and then those after it
 turn : (c : After-is_open)
-    → 
+    →
     let a = c.args in
     let rs = records_of a.code.now in
     c.loop-i.i + cond c.is_open.result 0 (suc (open_at (class_in a.table.now) a.c (clauses_of rs (drop (c.loop-i.i + 1) a.starts.now))))

@@ -1,17 +1,10 @@
 use Prim.Native.Nat.{◌-◌, ◌+◌}
 use mathlib.Core.Path.{◌≡◌}
-use native.Mathlib.Omega.{arith}
 use lib.ListN.{length, drop}
-use borrow.Author.Rules.{rules}
 use Rattle.records.specs.Records.{records_of}
 use Rattle.indexing_iter.specs.Clauses.{clauses_of}
-use Rattle.indexing_iter.specs.Checks.{check_clause}
-use mathlib.Core.Bool.{cond}
-use Prim.Native.Nat.{suc}
-use Rattle.indexing_iter.specs.Faults.{is_refused, refused_at}
+use Rattle.indexing_iter.specs.Faults.{refused_at}
 use Rattle.indexing_iter.proofs.Table.{class_in}
-use Rattle.indexing_iter.proofs.CheckLaws.{clauses-step, clauses-none, end-within}
-use Rattle.locate.proofs.LocateLaws.{first_step, first-end}
 use Rattle.locate.proofs.refused_at.Given as goal
 
 abbrev pub invariant-loop-i : goal.invariant-loop-i

@@ -5,7 +5,6 @@ use lib.ListN.{take, drop}
 use Rattle.records.specs.Records.{decode}
 use native.Mathlib.Omega.{arith}
 use Rattle.records.proofs.Laws.{room, get_or-records_of}
-use borrow.Author.Rules.{rules}
 use Rattle.records.proofs.get.Goals as goal
 
 pub overflow_mul-start : goal.overflow_mul-start

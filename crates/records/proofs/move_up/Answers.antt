@@ -1,9 +1,9 @@
 -- `records::move_up` meets its contract: the records from place i on stand k places higher, and what is still to be read is as it was. Assumes nothing.
 use mathlib.Core.Path.{◌≡◌, refl, ap, ◌∙◌}
-use Prim.Native.Nat.{ℕ, ◌-◌, ◌≤◌}
+use Prim.Native.Nat.{ℕ, ◌-◌}
 use native.Mathlib.Omega.{arith}
 use lib.ListN.{length}
-use Rattle.records.specs.Records.{records_of, zero_rec, Wrote}
+use Rattle.records.specs.Records.{records_of, zero_rec}
 use Rattle.records.specs.Moves.{moved}
 use Rattle.records.proofs.Laws.{length-records_of, wrote, wrote-is}
 use Rattle.records.proofs.MoveLaws.{moved_none, moved_more}

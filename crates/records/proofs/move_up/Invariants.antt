@@ -1,11 +1,8 @@
-use mathlib.Core.Path.{◌≡◌, refl, ap, ◌∙◌}
-use Prim.Native.Nat.{ℕ, ◌-◌, ◌≤◌}
-use native.Mathlib.Omega.{arith}
+use mathlib.Core.Path.{◌≡◌}
+use Prim.Native.Nat.{◌≤◌}
 use lib.ListN.{length}
-use Rattle.records.specs.Records.{records_of, zero_rec, Wrote}
+use Rattle.records.specs.Records.{records_of, Wrote}
 use Rattle.records.specs.Moves.{moved}
-use Rattle.records.proofs.Laws.{length-records_of, wrote, wrote-is}
-use Rattle.records.proofs.MoveLaws.{moved_none, moved_more}
 use Rattle.records.proofs.move_up.Given as goal
 
 abbrev pub invariant-loop-i : goal.invariant-loop-i

@@ -7,7 +7,6 @@ use borrow.Rule.Slice.PartMut.{put_mid, same_len_mid}
 use Rattle.records.specs.Records.{records_of}
 use native.Mathlib.Omega.{arith}
 use Rattle.records.proofs.Laws.{room, length-encode_rec, put-records_of, odd-put, wrote}
-use borrow.Author.Rules.{rules}
 use Rattle.records.proofs.put.Goals as goal
 
 pub overflow_mul-from : goal.overflow_mul-from

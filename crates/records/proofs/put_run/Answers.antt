@@ -1,11 +1,8 @@
 -- `records::put_run` meets its contract: after i turns the first i records of the run are written. Assumes nothing.
-use mathlib.Core.Path.{◌≡◌, sym}
-use Prim.Native.Nat.{◌-◌}
+use mathlib.Core.Path.{sym}
 use native.Mathlib.Omega.{arith}
-use lib.ListN.{length}
 use Rattle.records.specs.Records.{records_of}
-use Rattle.records.proofs.Run.{Run, run-start, run_more, run_end}
-use borrow.Author.Rules.{rules}
+use Rattle.records.proofs.Run.{run-start, run_more, run_end}
 use Rattle.records.proofs.put_run.Goals as goal
 
 pub loop-i-init : goal.loop-i-init

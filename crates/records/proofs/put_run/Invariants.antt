@@ -1,10 +1,8 @@
-use mathlib.Core.Path.{◌≡◌, sym}
+use mathlib.Core.Path.{◌≡◌}
 use Prim.Native.Nat.{◌-◌}
-use native.Mathlib.Omega.{arith}
 use lib.ListN.{length}
 use Rattle.records.specs.Records.{records_of}
-use Rattle.records.proofs.Run.{Run, run-start, run_more, run_end}
-use borrow.Author.Rules.{rules}
+use Rattle.records.proofs.Run.{Run}
 use Rattle.records.proofs.put_run.Given as goal
 
 abbrev pub invariant-loop-i : goal.invariant-loop-i

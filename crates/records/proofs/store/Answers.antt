@@ -6,7 +6,6 @@ use native.Mathlib.Omega.{arith}
 use lib.ListN.{length-set, drop_of_length-le}
 use lib.Seq.{sets-eq}
 use Rattle.records.specs.Records.{encode_rec}
-use borrow.Author.Rules.{rules}
 use Rattle.records.proofs.store.Goals as goal
 
 pub bounds-s-1 : goal.bounds-s-1

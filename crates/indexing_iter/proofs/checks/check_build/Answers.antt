@@ -4,7 +4,6 @@ use native.Mathlib.Omega.{arith}
 use Rattle.indexing_iter.specs.Classes.{class_of}
 use Rattle.indexing_iter.specs.Checks.{refuse, check_build}
 use Rattle.indexing_iter.proofs.CheckLaws.{arity-passed, chosen-passed, clauses-of-rising}
-use borrow.Author.Rules.{rules}
 use Rattle.indexing_iter.proofs.checks.check_build.Goals.{After-open_somewhere}
 use Rattle.indexing_iter.proofs.checks.check_build.Goals as goal
 
@@ -19,13 +18,13 @@ returns-in_default-b c = rw (← c.check_arity-a.ensures, c.in-Passed.is, ← c.
 pub returns-in_default-d : goal.returns-in_default-d
 unfolding check_build
 returns-in_default-d c = rw (
-      ← c.check_arity-a.ensures,
-      c.in-Passed.is,
-      ← c.check_chosen-b.ensures,
-      c.in-Passed-b.is,
-      ← c.check_clauses_of-d.ensures,
-      c.in_default-d.is,
-    ) refl
+  ← c.check_arity-a.ensures,
+  c.in-Passed.is,
+  ← c.check_chosen-b.ensures,
+  c.in-Passed-b.is,
+  ← c.check_clauses_of-d.ensures,
+  c.in_default-d.is,
+) refl
 
 pub overflow_cast-c : goal.overflow_cast-c
 overflow_cast-c c =

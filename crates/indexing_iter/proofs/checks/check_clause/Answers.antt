@@ -1,5 +1,5 @@
 -- 5 to 7 of a clause: the records left, after the last register, give the answer that the clause gives. Assumes nothing.
-use Prim.Native.Nat.{◌-◌, ◌+◌}
+use Prim.Native.Nat.{◌+◌}
 use mathlib.Core.Path.{◌≡◌}
 use mathlib.Core.Bool.{false}
 use mathlib.Core.Logic.{⊎_elim}
@@ -15,7 +15,7 @@ use Rattle.indexing_iter.proofs.checks.check_clause.Goals as goal
 
 -- in a turn: the record at i, and then those after it
 bad : (c : After-record_bad)
-    → 
+    →
     let a = c.args in
     let rs = records_of a.code.now in
     let cls = class_in a.table.now in
@@ -30,7 +30,7 @@ bad c =
     rw (step, ← c.record_bad.ensures) at c.loop-i.invariant
 
 turn : (c : After-arg_of_class-a)
-    → 
+    →
     let a = c.args in
     let rs = records_of a.code.now in
     let cls = class_in a.table.now in
@@ -62,13 +62,13 @@ pub loop-i-preserved : goal.loop-i-preserved
 loop-i-preserved c =
     let here = turn (goal.at.loop-i-preserved c).After-arg_of_class-a in
     elim c.match-a-2.branch [
-      in-ArgedHead-a+else-register_bad w ↦
-      rw w.last-is (rw (w.in-ArgedHead-a.is, ← w.register_bad.ensures, w.if-register_bad.false) at here)
-    | in_default-a w ↦
-      rw w.last-is
-      (⊎_elim (λ v. absurd (w.in_default-a.not-ArgedHead v.0 v.1 v.2))
-      (λ v. ⊎_elim (λ e. rw e at here) (λ e. rw e at here) v)
-      c.in-ArgedHead.is)
+      | in-ArgedHead-a+else-register_bad w ↦
+          rw w.last-is (rw (w.in-ArgedHead-a.is, ← w.register_bad.ensures, w.if-register_bad.false) at here)
+      | in_default-a w ↦
+          rw w.last-is
+          (⊎_elim (λ v. absurd (w.in_default-a.not-ArgedHead v.0 v.1 v.2))
+          (λ v. ⊎_elim (λ e. rw e at here) (λ e. rw e at here) v)
+          c.in-ArgedHead.is)
     ]
 
 pub returns : goal.returns

@@ -1,15 +1,10 @@
-use Prim.Native.Nat.{◌-◌, ◌+◌}
+use Prim.Native.Nat.{◌-◌}
 use mathlib.Core.Path.{◌≡◌}
-use mathlib.Core.Bool.{false}
-use mathlib.Core.Logic.{⊎_elim}
 use lib.Seq.{slice}
-use borrow.Author.Rules.{rules}
 use Rattle.records.specs.Records.{records_of}
-use Rattle.indexing_iter.specs.Classes.{arg_of_class}
-use Rattle.indexing_iter.specs.Checks.{has_body, check_clause}
+use Rattle.indexing_iter.specs.Checks.{check_clause}
 use Rattle.indexing_iter.proofs.Table.{class_in}
-use Rattle.indexing_iter.proofs.Parts.{read-over}
-use Rattle.indexing_iter.proofs.CheckLaws.{clause_from, clause_step, clause-whole, clause-step, clause-none}
+use Rattle.indexing_iter.proofs.CheckLaws.{clause_from}
 use Rattle.indexing_iter.proofs.checks.check_clause.Given as goal
 
 abbrev pub invariant-loop-i : goal.invariant-loop-i

@@ -1,7 +1,6 @@
 -- 5 to 7 clause by clause: the clauses left give the answer that all of them give. Assumes nothing.
-use Prim.Native.Nat.{◌-◌, ◌+◌}
+use Prim.Native.Nat.{◌+◌}
 use mathlib.Core.Path.{◌≡◌}
-use native.Mathlib.Omega.{arith}
 use lib.ListN.{length, drop}
 use borrow.Author.Rules.{rules}
 use Rattle.records.specs.Records.{records_of}
@@ -14,7 +13,7 @@ use Rattle.indexing_iter.proofs.checks.check_clauses.Goals as goal
 
 -- in a turn: the clause at i, and then those after it
 turn : (c : After-check_clause-a)
-    → 
+    →
     let a = c.args in
     let rs = records_of a.code.now in
     otherwise c.check_clause-a.result (check_clauses (class_in a.table.now) a.arity (clauses_of rs (drop (c.loop-i.i + 1) a.starts.now)))

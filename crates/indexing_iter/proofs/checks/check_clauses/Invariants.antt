@@ -1,13 +1,10 @@
-use Prim.Native.Nat.{◌-◌, ◌+◌}
+use Prim.Native.Nat.{◌-◌}
 use mathlib.Core.Path.{◌≡◌}
-use native.Mathlib.Omega.{arith}
 use lib.ListN.{length, drop}
-use borrow.Author.Rules.{rules}
 use Rattle.records.specs.Records.{records_of}
 use Rattle.indexing_iter.specs.Clauses.{clauses_of}
-use Rattle.indexing_iter.specs.Checks.{check_clauses, otherwise}
+use Rattle.indexing_iter.specs.Checks.{check_clauses}
 use Rattle.indexing_iter.proofs.Table.{class_in}
-use Rattle.indexing_iter.proofs.CheckLaws.{clauses-step, clauses-none, end-within}
 use Rattle.indexing_iter.proofs.checks.check_clauses.Given as goal
 
 abbrev pub invariant-loop-i : goal.invariant-loop-i

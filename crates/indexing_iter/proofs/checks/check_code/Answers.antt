@@ -1,7 +1,6 @@
 -- 1, and then 3 to 7. Assumes nothing.
 use mathlib.Core.Path.{refl}
 use Rattle.indexing_iter.specs.Checks.{check_code}
-use borrow.Author.Rules.{rules}
 use Rattle.indexing_iter.proofs.checks.check_code.Goals as goal
 
 pub returns-in_default : goal.returns-in_default

@@ -1,5 +1,5 @@
 -- Whether there is a body record: the records left give the answer that the whole run gives. Assumes nothing.
-use Prim.Native.Nat.{◌-◌, ◌+◌}
+use Prim.Native.Nat.{◌+◌}
 use mathlib.Core.Path.{◌≡◌}
 use mathlib.Core.Bool.{◌||◌}
 use mathlib.Core.Logic.{⊎_elim}
@@ -14,7 +14,7 @@ use Rattle.indexing_iter.proofs.checks.has_body.Goals as goal
 
 -- in a turn: whether the record at i is a body record, and whether one after it is
 turn : (c : After-extract_index_arg-a)
-    → 
+    →
     let a = c.args in
     let rs = records_of a.code.now in
     let cls = class_in a.table.now in

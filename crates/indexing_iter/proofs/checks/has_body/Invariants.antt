@@ -1,13 +1,9 @@
-use Prim.Native.Nat.{◌-◌, ◌+◌}
+use Prim.Native.Nat.{◌-◌}
 use mathlib.Core.Path.{◌≡◌}
-use mathlib.Core.Bool.{◌||◌}
 use lib.Seq.{slice}
-use borrow.Author.Rules.{rules}
 use Rattle.records.specs.Records.{records_of}
-use Rattle.indexing_iter.specs.Checks.{is_body, has_body}
+use Rattle.indexing_iter.specs.Checks.{has_body}
 use Rattle.indexing_iter.proofs.Table.{class_in}
-use Rattle.indexing_iter.proofs.Parts.{no_body}
-use Rattle.indexing_iter.proofs.CheckLaws.{body-step, body-none}
 use Rattle.indexing_iter.proofs.checks.has_body.Given as goal
 
 abbrev pub invariant-loop-i : goal.invariant-loop-i

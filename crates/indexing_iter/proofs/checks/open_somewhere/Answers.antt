@@ -1,8 +1,7 @@
 -- 8 clause by clause: the clauses left give the answer that all of them give. Assumes nothing.
-use Prim.Native.Nat.{◌-◌, ◌+◌}
+use Prim.Native.Nat.{◌+◌}
 use mathlib.Core.Path.{◌≡◌}
 use mathlib.Core.Bool.{◌||◌}
-use native.Mathlib.Omega.{arith}
 use lib.ListN.{length, drop}
 use borrow.Author.Rules.{rules}
 use Rattle.records.specs.Records.{records_of}
@@ -15,7 +14,7 @@ use Rattle.indexing_iter.proofs.checks.open_somewhere.Goals as goal
 
 -- in a turn: whether the clause at i has no key, and whether one after it has none
 turn : (c : After-is_open)
-    → 
+    →
     let a = c.args in
     let rs = records_of a.code.now in
     (c.is_open.result || open_somewhere class_of a.c (clauses_of rs (drop (c.loop-i.i + 1) a.starts.now)))

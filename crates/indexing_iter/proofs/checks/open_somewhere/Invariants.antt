@@ -1,14 +1,10 @@
-use Prim.Native.Nat.{◌-◌, ◌+◌}
+use Prim.Native.Nat.{◌-◌}
 use mathlib.Core.Path.{◌≡◌}
-use mathlib.Core.Bool.{◌||◌}
-use native.Mathlib.Omega.{arith}
 use lib.ListN.{length, drop}
-use borrow.Author.Rules.{rules}
 use Rattle.records.specs.Records.{records_of}
 use Rattle.indexing_iter.specs.Classes.{class_of}
 use Rattle.indexing_iter.specs.Clauses.{clauses_of}
 use Rattle.indexing_iter.specs.Checks.{open_somewhere}
-use Rattle.indexing_iter.proofs.CheckLaws.{clauses-step, clauses-none, end-within}
 use Rattle.indexing_iter.proofs.checks.open_somewhere.Given as goal
 
 abbrev pub invariant-loop-i : goal.invariant-loop-i

@@ -1,7 +1,6 @@
 -- 6 of one record. Assumes nothing.
 use borrow.Author.Tests.{eq-eqb, ne_eqb, le-leb, lt-leb}
 use Rattle.indexing_iter.specs.Checks.{record_bad}
-use borrow.Author.Rules.{rules}
 use Rattle.indexing_iter.proofs.checks.record_bad.Goals as goal
 
 pub returns-then-class-lt3 : goal.returns-then-class-lt3
