@@ -27,7 +27,7 @@ slice_bounds-size_line-end-7 c = simp length-take (omega arith)
 
 pub size_line-requires : goal.size_line-requires
 size_line-requires c = record {
-      starts_value = c.requires.starts_value;
-      starts_len_bound = simp length-take (omega arith);
-      sizes_len = simp length-take (omega arith);
-    }
+  starts_value = c.requires.starts_value;
+  starts_len_bound = simp length-take (omega arith);
+  sizes_len = simp length-take (omega arith);
+}

@@ -17,13 +17,13 @@ loop-i-preserved c =
     let e = c.opens_bucket.ensures in (
       refl,
       elim c.if-opens_bucket.branch [
-        then-opens_bucket w ↦ counted-yes _ c.loop-i.invariant.1 (omega arith) (sym e ∙ w.if-opens_bucket.true) w.k-is
+        | then-opens_bucket w ↦ counted-yes _ c.loop-i.invariant.1 (omega arith) (sym e ∙ w.if-opens_bucket.true) w.k-is
         | else-opens_bucket w ↦ counted-no _ c.loop-i.invariant.1 (omega arith) (sym e ∙ w.if-opens_bucket.false) w.k-is
       ],
     )
 
 pub returns : goal.returns
 returns c = record {
-      value = counted-end c.loop-i.invariant.1 (omega arith);
-      upper_bound = omega arith;
-    }
+  value = counted-end c.loop-i.invariant.1 (omega arith);
+  upper_bound = omega arith;
+}

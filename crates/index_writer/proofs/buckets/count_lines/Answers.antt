@@ -17,7 +17,7 @@ loop-i-preserved c =
     let e = c.opens_line.ensures in (
       refl,
       elim c.if-opens_line.branch [
-        then-opens_line w ↦ counted-yes _ c.loop-i.invariant.1 (omega arith) (sym e ∙ w.if-opens_line.true) w.k-is
+        | then-opens_line w ↦ counted-yes _ c.loop-i.invariant.1 (omega arith) (sym e ∙ w.if-opens_line.true) w.k-is
         | else-opens_line w ↦ counted-no _ c.loop-i.invariant.1 (omega arith) (sym e ∙ w.if-opens_line.false) w.k-is
       ],
     )
@@ -25,6 +25,6 @@ loop-i-preserved c =
 pub returns : goal.returns
 unfolding lines_to
 returns c = record {
-      value = counted-end c.loop-i.invariant.1 (omega arith);
-      upper_bound = omega arith;
-    }
+  value = counted-end c.loop-i.invariant.1 (omega arith);
+  upper_bound = omega arith;
+}

@@ -8,13 +8,13 @@ use Rattle.index_writer.proofs.buckets.list_lines.Goals as goal
 pub returns-then-empty_list : goal.returns-then-empty_list
 unfolding list_lines
 returns-then-empty_list c = record {
-      value = simp (sym c.empty_list.ensures ∙ c.if-empty_list.true);
-      upper_bound = omega arith;
-    }
+  value = simp (sym c.empty_list.ensures ∙ c.if-empty_list.true);
+  upper_bound = omega arith;
+}
 
 pub returns : goal.returns
 unfolding list_lines
 returns c = record {
-      value = simp (sym c.empty_list.ensures ∙ c.if-empty_list.false) c.count_lines.ensures.value;
-      upper_bound = omega arith;
-    }
+  value = simp (sym c.empty_list.ensures ∙ c.if-empty_list.false) c.count_lines.ensures.value;
+  upper_bound = omega arith;
+}

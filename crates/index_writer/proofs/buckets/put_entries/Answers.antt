@@ -15,7 +15,7 @@ entry : (c : In-loop-i)
     entry_at a.leaders.now a.heads.now a.bits.now a.offs.now a.dynamic a.g (c.loop-i.k + a.by) c.loop-i.i
     ≡ entry_at a.leaders.now a.heads.now a.bits.now a.offs.now a.dynamic a.g
     (a.d + a.by + lines_to a.leaders.now a.heads.now a.dynamic a.g c.loop-i.i) c.loop-i.i
-entry c =     let a = c.args in
+entry c = let a = c.args in
     ap (λ (x : ℕ). entry_at a.leaders.now a.heads.now a.bits.now a.offs.now a.dynamic a.g x c.loop-i.i) (distance-grown a.d a.by _ c.loop-i.invariant.0)
 
 pub loop-i-init : goal.loop-i-init
@@ -39,9 +39,9 @@ put_entry-q-requires c = let l = c.loop-i in
 
 pub line_step-k-requires : goal.line_step-k-requires
 line_step-k-requires c = record {
-      i_in_bounds = omega arith;
-      sizes_value = c.requires.sizes_value;
-    }
+  i_in_bounds = omega arith;
+  sizes_value = c.requires.sizes_value;
+}
 
 pub loop-i-preserved : goal.loop-i-preserved
 loop-i-preserved c = let l = c.loop-i in

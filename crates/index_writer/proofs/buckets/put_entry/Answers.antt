@@ -19,7 +19,7 @@ opened : (t : Then-opens_bucket)
     → let a = t.args in
     entry_at a.leaders.now a.heads.now a.bits.now a.offs.now a.dynamic a.g (a.d + a.by) a.i
     ≡ entry_of a.leaders.now a.heads.now a.bits.now a.offs.now a.dynamic (a.d + a.by) a.i ∷ []
-opened t =     let a = t.args in
+opened t = let a = t.args in
     entry-yes a.leaders.now a.heads.now a.bits.now a.offs.now a.dynamic a.g (a.d + a.by) a.i (sym t.opens_bucket.ensures ∙ t.if-opens_bucket.true)
 
 room : (t : Then-opens_bucket) → let a = t.args in a.q < length (records_of a.index.now)

@@ -16,7 +16,7 @@ loop-j-preserved c =
     let e = c.in_bucket.ensures in (
       refl,
       elim c.if-in_bucket.branch [
-        then-in_bucket w ↦ counted-yes _ c.loop-j.invariant.1 (omega arith) (sym e ∙ w.if-in_bucket.true) w.k-is
+        | then-in_bucket w ↦ counted-yes _ c.loop-j.invariant.1 (omega arith) (sym e ∙ w.if-in_bucket.true) w.k-is
         | else-in_bucket w ↦ counted-no _ c.loop-j.invariant.1 (omega arith) (sym e ∙ w.if-in_bucket.false) w.k-is
       ],
     )
@@ -24,6 +24,6 @@ loop-j-preserved c =
 pub returns : goal.returns
 unfolding size_of
 returns c = record {
-      value = counted-end c.loop-j.invariant.1 (omega arith);
-      upper_bound = omega arith;
-    }
+  value = counted-end c.loop-j.invariant.1 (omega arith);
+  upper_bound = omega arith;
+}

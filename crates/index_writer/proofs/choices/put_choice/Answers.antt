@@ -18,7 +18,7 @@ member : (t : Then-in_bucket)
     → let a = t.args in
     choice_at a.leaders.now a.offs.now a.tags.now a.dynamic a.default a.n a.i a.k a.j
     ≡ rec_of 6 (tag_at a.dynamic a.default (get_or a.tags.now a.j 0) a.n a.k) 0 (get_or a.offs.now a.j 0) 0 ∷ []
-member t =     let a = t.args in
+member t = let a = t.args in
     choice-yes a.leaders.now a.offs.now a.tags.now a.dynamic a.default a.i a.n a.k a.j (sym t.in_bucket.ensures ∙ t.if-in_bucket.true)
 
 room : (t : Then-in_bucket) → let a = t.args in a.q < length (records_of a.index.now)

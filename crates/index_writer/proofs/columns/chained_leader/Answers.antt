@@ -19,12 +19,11 @@ loop-number-smaller c =
     omega (arith, leader-less _ _ _ _ _ c.requires.bucket_value.0 _ c.requires.chained _ (c.loop-number.number - 1) (omega arith) c.loop-number.invariant.1)
 
 pub loop-number-preserved : goal.loop-number-preserved
-loop-number-preserved c =
-     (
-      search rules,
-      leader-next _ _ _ _ _ c.requires.bucket_value.0 _ c.requires.chained _ (c.loop-number.number - 1) (omega arith) c.loop-number.invariant.1
-          (sym c.same_at.ensures ∙ c.if-same_at.false),
-    )
+loop-number-preserved c = (
+  search rules,
+  leader-next _ _ _ _ _ c.requires.bucket_value.0 _ c.requires.chained _ (c.loop-number.number - 1) (omega arith) c.loop-number.invariant.1
+      (sym c.same_at.ensures ∙ c.if-same_at.false),
+)
 
 pub returns : goal.returns
 returns c = leader-own _ _ _ _ _ _ (omega arith) c.loop-number.invariant.1

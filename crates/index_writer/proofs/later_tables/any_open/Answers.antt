@@ -16,9 +16,9 @@ loop-j-init c = (refl, omega arith, any_none _)
 
 pub open_member-requires : goal.open_member-requires
 open_member-requires c = record {
-      leaders_len_bound = omega arith;
-      le_b = omega arith;
-    }
+  leaders_len_bound = omega arith;
+  le_b = omega arith;
+}
 
 pub returns-then-open_member : goal.returns-then-open_member
 returns-then-open_member c =

@@ -14,22 +14,22 @@ loop-j-init c = (refl, counted_start _ _)
 
 pub open_member-requires : goal.open_member-requires
 open_member-requires c = record {
-      leaders_len_bound = omega arith;
-      le_b = omega arith;
-    }
+  leaders_len_bound = omega arith;
+  le_b = omega arith;
+}
 
 pub loop-j-preserved : goal.loop-j-preserved
 loop-j-preserved c =
     let e = c.open_member.ensures in (
       refl,
       elim c.if-open_member.branch [
-        then-open_member w ↦ counted-yes _ c.loop-j.invariant.1 (omega arith) (sym e ∙ w.if-open_member.true) w.k-is
+        | then-open_member w ↦ counted-yes _ c.loop-j.invariant.1 (omega arith) (sym e ∙ w.if-open_member.true) w.k-is
         | else-open_member w ↦ counted-no _ c.loop-j.invariant.1 (omega arith) (sym e ∙ w.if-open_member.false) w.k-is
       ],
     )
 
 pub returns : goal.returns
 returns c = record {
-      value = counted-end c.loop-j.invariant.1 (omega arith);
-      upper_bound = omega arith;
-    }
+  value = counted-end c.loop-j.invariant.1 (omega arith);
+  upper_bound = omega arith;
+}

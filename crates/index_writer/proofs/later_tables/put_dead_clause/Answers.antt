@@ -18,7 +18,7 @@ use Rattle.index_writer.proofs.later_tables.put_dead_clause.Goals as goal
 dead : (t : Then-open_member)
     → let a = t.args in
     cond (open_member a.leaders.now a.opens.now a.offs.now a.i a.b a.j) (rec_of 7 0 0 (get_or a.offs.now a.j 0) 0 ∷ []) [] ≡ rec_of 7 0 0 (get_or a.offs.now a.j 0) 0 ∷ []
-dead t =     let a = t.args in
+dead t = let a = t.args in
     cond_yes _ (rec_of 7 0 0 (get_or a.offs.now a.j 0) 0 ∷ []) []
     (sym (open-as a.leaders.now a.opens.now a.i a.b a.offs.now a.j) ∙ sym t.open_member.ensures ∙ t.if-open_member.true)
 

@@ -15,12 +15,12 @@ use Rattle.index_writer.proofs.later_tables.put_table.Goals as goal
 
 -- the table is dead
 dead : (t : Then-extensible) → let a = t.args in table_at a.leaders.now a.opens.now a.offs.now a.mask a.extensible a.i a.b ≡ rec_of 4 0 a.b 0 0 ∷ dead_clauses a.leaders.now a.opens.now a.offs.now a.i a.b
-dead t =     let a = t.args in
+dead t = let a = t.args in
     table-dead a.leaders.now a.opens.now a.i a.b a.offs.now a.mask a.extensible (sym t.masked.ensures ∙ t.if-masked.false) (sym t.any_open.ensures ∙ t.if-any_open.true) t.if-extensible.true
 
 -- it is on demand, and there is room for it
 demand : (t : Else-any_open) → let a = t.args in table_at a.leaders.now a.opens.now a.offs.now a.mask a.extensible a.i a.b ≡ rec_of 3 0 a.b 0 0 ∷ []
-demand t =     let a = t.args in
+demand t = let a = t.args in
     table-demand a.leaders.now a.opens.now a.i a.b a.offs.now a.mask a.extensible (sym t.masked.ensures ∙ t.if-masked.false) (sym t.any_open.ensures ∙ t.if-any_open.false)
 
 room : (t : Else-any_open) → let a = t.args in a.p < length (records_of a.index.now)

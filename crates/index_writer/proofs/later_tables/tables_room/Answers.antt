@@ -15,9 +15,9 @@ loop-t-init c = (omega arith, omega arith, λ offs. sym (ap length (list-none _)
 
 pub table_room-room-requires : goal.table_room-room-requires
 table_room-room-requires c = record {
-      leaders_len_bound = omega arith;
-      le_b = omega arith;
-    }
+  leaders_len_bound = omega arith;
+  le_b = omega arith;
+}
 
 pub loop-t-preserved : goal.loop-t-preserved
 loop-t-preserved c =

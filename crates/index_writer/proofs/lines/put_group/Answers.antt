@@ -14,7 +14,7 @@ use Rattle.index_writer.proofs.lines.put_group.Goals as goal
 line : (c : In-loop-i)
     → let a = c.args in
     line_at a.leaders.now a.heads.now a.opens.now a.offs.now a.tags.now a.settings a.arg a.g c.loop-i.number c.loop-i.i ≡ line_in a.leaders.now a.heads.now a.opens.now a.offs.now a.tags.now a.settings a.arg a.g a.first c.loop-i.i
-line c =     let a = c.args in
+line c = let a = c.args in
     ap (λ (x : ℕ). line_at a.leaders.now a.heads.now a.opens.now a.offs.now a.tags.now a.settings a.arg a.g x c.loop-i.i) c.loop-i.invariant.1
 
 pub loop-i-init : goal.loop-i-init

@@ -10,7 +10,7 @@ use Rattle.index_writer.proofs.lines.put_line_at.Goals as goal
 
 -- clause i opens a line, which is to be written
 opened : (t : Then-opens_line) → let a = t.args in line_at a.leaders.now a.heads.now a.opens.now a.offs.now a.tags.now a.settings a.arg a.g a.number a.i ≡ line_of a.leaders.now [] a.opens.now a.offs.now a.tags.now a.settings a.arg a.number a.i
-opened t =     let a = t.args in
+opened t = let a = t.args in
     line-yes a.leaders.now a.heads.now a.opens.now a.offs.now a.tags.now a.settings a.arg a.g a.number a.i (sym t.opens_line.ensures ∙ t.if-opens_line.true)
 
 pub put_line-requires : goal.put_line-requires

@@ -11,12 +11,12 @@ use Rattle.index_writer.proofs.lines.put_list_line.Goals as goal
 
 -- no clause has a list: the line of none is to be written
 none : (t : Then-empty_list) → let a = t.args in list_line a.leaders.now a.heads.now a.opens.now a.offs.now a.tags.now a.settings a.arg a.number ≡ line_of a.leaders.now [] a.opens.now a.offs.now a.tags.now a.settings a.arg a.number (length a.leaders.now)
-none t =     let a = t.args in
+none t = let a = t.args in
     list-none-line a.leaders.now a.heads.now a.opens.now a.offs.now a.tags.now a.settings a.arg a.number (sym t.empty_list.ensures ∙ t.if-empty_list.true)
 
 -- else they are those of the group
 some : (t : Else-empty_list) → let a = t.args in list_line a.leaders.now a.heads.now a.opens.now a.offs.now a.tags.now a.settings a.arg a.number ≡ group_lines a.leaders.now a.heads.now a.opens.now a.offs.now a.tags.now a.settings a.arg 2 a.number
-some t =     let a = t.args in
+some t = let a = t.args in
     list-lines a.leaders.now a.heads.now a.opens.now a.offs.now a.tags.now a.settings a.arg a.number (sym t.empty_list.ensures ∙ t.if-empty_list.false)
 
 pub put_line-requires : goal.put_line-requires

@@ -55,7 +55,7 @@ put_list_line-q-requires c =
       sizes_value = c.requires.sizes_value;
       arg_le_arity = (n.1, n.2, number-first n.3);
       number_in_bounds = left-room _ _
-      (begin _ _ _ _ _ _ _ _ c.args.index.now c.args.p c.list_lines.ensures.value c.count_lines.ensures.value c.requires.number_in_bounds);
+          (begin _ _ _ _ _ _ _ _ c.args.index.now c.args.p c.list_lines.ensures.value c.count_lines.ensures.value c.requires.number_in_bounds);
     }
 
 pub put_group-q-requires : goal.put_group-q-requires

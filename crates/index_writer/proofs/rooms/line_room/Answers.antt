@@ -8,6 +8,6 @@ use Rattle.index_writer.proofs.rooms.line_room.Goals as goal
 
 pub returns : goal.returns
 returns c = let a = c.args in record {
-      by_index = λ heads offs tags number. omega (arith, ap length (line-parts a.leaders.now a.opens.now offs tags a.settings a.arg a.i heads number), c.rest_room.ensures.by_index offs tags);
-      upper_bound = omega arith;
-    }
+  by_index = λ heads offs tags number. omega (arith, ap length (line-parts a.leaders.now a.opens.now offs tags a.settings a.arg a.i heads number), c.rest_room.ensures.by_index offs tags);
+  upper_bound = omega arith;
+}

@@ -8,6 +8,6 @@ use Rattle.index_writer.proofs.rooms.seed_room.Goals as goal
 
 pub returns : goal.returns
 returns c = let a = c.args in record {
-      by_index = λ offs tags. omega (arith, ap length (seed-parts a.zeros.now a.opens.now offs tags a.settings a.arg), c.rest_room.ensures.by_index offs tags);
-      upper_bound = omega arith;
-    }
+  by_index = λ offs tags. omega (arith, ap length (seed-parts a.zeros.now a.opens.now offs tags a.settings a.arg), c.rest_room.ensures.by_index offs tags);
+  upper_bound = omega arith;
+}
