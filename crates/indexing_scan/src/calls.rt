@@ -9,6 +9,7 @@ use indexing_iter::{Checked, OptArgIndexKey};
 use records::Rec;
 
 // Whether the record of an argument is right: all zero if unbound, else the sort's own fields and no others.
+#[tactic(auto, unfolding(crate::specs::Calls::argument_ok))]
 fn argument_ok(r: Rec) -> bool
     ensures { result ≡ argument_ok r }
 {

@@ -200,6 +200,7 @@ fn find_equal(index: &[u8], from: usize, to: usize, q: OptArgIndexKey) -> usize
 
 // The choice in the switch whose entries stand from one place up to another: no entry of the key's group, nothing; one,
 // that entry whatever its key; more, the equal key.
+#[tactic(auto, using(crate::proofs::ChooseLaws::only_chosen))]
 pub fn choose_entry(index: &[u8], from: usize, to: usize, q: OptArgIndexKey) -> Chosen
     requires { (from ≤ to) × (to ≤ length (records_of index.now)) }
     ensures { result ≡ choose_rec q (slice from to (records_of index.now)) }

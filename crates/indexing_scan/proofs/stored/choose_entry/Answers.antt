@@ -1,7 +1,7 @@
 -- The choice in a switch: the entries of the group are counted, and one is found. Assumes nothing.
 use native.Mathlib.Omega.{arith}
 use Rattle.records.specs.Records.{records_of}
-use Rattle.indexing_scan.proofs.ChooseLaws.{ends-none, only-within, ends-only, ends-lacking, ends-equal}
+use Rattle.indexing_scan.proofs.ChooseLaws.{ends-none, only-within, ends-lacking, ends-equal}
 use Rattle.indexing_scan.proofs.stored.choose_entry.Goals as goal
 
 pub returns-then-count-eq0 : goal.returns-then-count-eq0
@@ -18,16 +18,8 @@ get-only-requires c =
     let g = c.group_of-g in
     let n = c.count_group-count in
     let w = only-within a.q (records_of a.index.now) a.from a.to g.result n.result c.requires.0 c.requires.1 g.ensures n.ensures
-    c.if-count-eq1.true c.find_group.result c.find_group.ensures.0 in
+    (omega arith) c.find_group.result c.find_group.ensures.0 in
     omega (arith, w)
-
-pub returns-then-count-eq1 : goal.returns-then-count-eq1
-returns-then-count-eq1 c =
-    let a = c.args in
-    let g = c.group_of-g in
-    let n = c.count_group-count in
-    ends-only a.q (records_of a.index.now) a.from a.to g.result n.result c.requires.0 c.requires.1 g.ensures n.ensures
-    c.if-count-eq1.true c.find_group.result c.find_group.ensures.0 c.get-only.result c.get-only.ensures
 
 pub returns-then-to-place : goal.returns-then-to-place
 returns-then-to-place c =
@@ -35,7 +27,7 @@ returns-then-to-place c =
     let g = c.group_of-g in
     let n = c.count_group-count in
     ends-lacking a.q (records_of a.index.now) a.from a.to g.result n.result c.requires.0 c.requires.1 g.ensures n.ensures
-    c.if-count-eq0.false c.if-count-eq1.false
+    c.if-count-eq0.false (λ w. omega arith)
     c.find_equal-place.result c.find_equal-place.ensures.0 c.if-to-place.true
 
 pub returns : goal.returns
@@ -44,5 +36,5 @@ returns c =
     let g = c.group_of-g in
     let n = c.count_group-count in
     ends-equal a.q (records_of a.index.now) a.from a.to g.result n.result c.requires.0 c.requires.1 g.ensures n.ensures
-    c.if-count-eq0.false c.if-count-eq1.false
+    c.if-count-eq0.false (λ w. omega arith)
     c.find_equal-place.result c.find_equal-place.ensures.0 c.if-to-place.false c.get-equal.result c.get-equal.ensures

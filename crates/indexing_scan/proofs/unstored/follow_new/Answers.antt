@@ -48,7 +48,8 @@ compared : (c : After-all_same)
 compared c =
     let a = c.args in
     let K = key_of class_of (records_of a.code.now) a.starts.now in
-    rw c.key_of-key.ensures at c.all_same.ensures
+    let list = c.keep_alike-n.new.clauses in
+    c.all_same.ensures ∙ ap (λ k. all_same K a.a k (take c.keep_alike-n.result list)) c.key_of-key.ensures
 
 -- the clauses with the equal key stand at the front
 picked : (c : After-keep_alike-k)
