@@ -11,6 +11,7 @@ pub returns : goal.returns
 returns c = let a = c.args in
     let m = c.index_size-a in
     let l = c.lay_sized in
-    sized-face m.result _ a.result.now l.new.res l.res
+    let f = sized-face m.result _ a.res.now l.new.res l.result
     (m.ensures ∙ ap (λ (s : Settings). size_call class_of a.code.now a.starts.now s a.c) c.settings_by-settings.ensures)
-    l.ensures
+    (l.ensures.value, l.ensures.res_after) in
+    record { value = f.0; res_after = f.1 }
