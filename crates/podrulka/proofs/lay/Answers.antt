@@ -1,11 +1,9 @@
 -- The first i values stand. Assumes nothing.
-use mathlib.Core.Path.{◌≡◌, refl, ◌∙◌, ap}
-use Prim.Native.Nat.{◌-◌, ◌≤◌}
+use mathlib.Core.Path.{refl, ◌∙◌, ap}
 use native.Mathlib.Omega.{arith}
-use lib.ListN.{length, set, get_or, length-set}
-use Rattle.indexing_walk.proofs.OuterLaws.{copied_to, copy_start, copy_more}
+use lib.ListN.{set, get_or, length-set}
+use Rattle.indexing_walk.proofs.OuterLaws.{copy_start, copy_more}
 use Rattle.podrulka.proofs.LaidLaws.{laid-all, laid-short}
-use borrow.Author.Rules.{rules}
 use Rattle.podrulka.proofs.lay.Goals as goal
 
 pub loop-i-init : goal.loop-i-init

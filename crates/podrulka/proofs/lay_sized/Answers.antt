@@ -1,6 +1,5 @@
 -- The size's answer, case by case. Assumes nothing.
 use mathlib.Core.Path.{refl}
-use borrow.Author.Rules.{rules}
 use Rattle.podrulka.proofs.lay_sized.Goals as goal
 
 pub returns-in-Needs : goal.returns-in-Needs

@@ -1,6 +1,5 @@
 -- The walk's answer, case by case. Assumes nothing.
 use mathlib.Core.Path.{refl}
-use borrow.Author.Rules.{rules}
 use Rattle.podrulka.proofs.lay_walked.Goals as goal
 
 pub returns-in-Answered : goal.returns-in-Answered

@@ -1,6 +1,5 @@
 -- The witness's answer, case by case. Assumes nothing.
 use mathlib.Core.Path.{refl}
-use borrow.Author.Rules.{rules}
 use Rattle.podrulka.proofs.lay_witnessed.Goals as goal
 
 pub returns-in-Found : goal.returns-in-Found

@@ -4,7 +4,6 @@ use Rattle.indexing.specs.Builder.{build_call}
 use Rattle.indexing_iter.specs.Classes.{class_of}
 use Rattle.indexing_iter.specs.declared.Settings.{Settings}
 use mathlib.Core.Path.{◌∙◌, ap}
-use borrow.Author.Rules.{rules}
 use Rattle.podrulka.proofs.podrulka_build.Goals as goal
 
 pub returns : goal.returns

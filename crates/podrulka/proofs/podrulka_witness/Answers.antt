@@ -1,6 +1,5 @@
 -- The witness's call, settings and numbers joined. Assumes nothing.
 use Rattle.podrulka.proofs.FaceLaws.{witnessed-face}
-use borrow.Author.Rules.{rules}
 use Rattle.podrulka.proofs.podrulka_witness.Goals as goal
 
 pub returns : goal.returns
