@@ -1,10 +1,7 @@
-use mathlib.Core.Path.{◌≡◌, refl, ◌∙◌, ap}
+use mathlib.Core.Path.{◌≡◌}
 use Prim.Native.Nat.{◌-◌, ◌≤◌}
-use native.Mathlib.Omega.{arith}
-use lib.ListN.{length, set, get_or, length-set}
-use Rattle.indexing_walk.proofs.OuterLaws.{copied_to, copy_start, copy_more}
-use Rattle.podrulka.proofs.LaidLaws.{laid-all, laid-short}
-use borrow.Author.Rules.{rules}
+use lib.ListN.{length}
+use Rattle.indexing_walk.proofs.OuterLaws.{copied_to}
 use Rattle.podrulka.proofs.lay.Given as goal
 
 abbrev pub invariant-loop-i : goal.invariant-loop-i

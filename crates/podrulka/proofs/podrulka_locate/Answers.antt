@@ -1,6 +1,5 @@
 -- The fault's numbers, laid. Assumes nothing.
 use mathlib.Core.Path.{refl}
-use borrow.Author.Rules.{rules}
 use Rattle.podrulka.proofs.podrulka_locate.Goals as goal
 
 pub returns : goal.returns

@@ -1,7 +1,6 @@
 -- The settings, field by field. Assumes nothing.
 use mathlib.Core.Path.{refl}
 use Rattle.podrulka.specs.Face.{settings_by}
-use borrow.Author.Rules.{rules}
 use Rattle.podrulka.proofs.settings_by.Goals as goal
 
 pub returns : goal.returns
