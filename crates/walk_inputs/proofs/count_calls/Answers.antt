@@ -5,7 +5,7 @@ use borrow.Author.Rules.{rules}
 use Rattle.walk_inputs.proofs.count_calls.Goals as goal
 
 pub overflow_sub-result : goal.overflow_sub-result
-overflow_sub-result c = omega (arith, c.step_of_lem.ensures.1)
+overflow_sub-result c = omega (arith, c.step_of-step.ensures.1)
 
 pub returns : goal.returns
-returns c = calls-as _ _ _ _ c.heard-h.ensures.0 c.plan_in-plan.ensures.value c.step_of_lem.ensures.0
+returns c = calls-as _ _ _ _ c.heard-h.ensures.0 c.plan_in-plan.ensures.value c.step_of-step.ensures.0

@@ -18,6 +18,6 @@ returns c =
     let l = c.put_field-line_at.ensures in
     let w = c.put_case.ensures in
     let g : length c.args.text.now ≤ 106 = omega (arith, c) in record {
-      upper_bound = omega (arith, n.0, m.0, t.0, k.0, l.0, w.0);
-      text_after = ended-parts c.args.e _ _ _ _ _ _ [] (n.1 ∙ ap (decimal c.args.e.records) (drop_of_length-le c.args.text.now g)) m.1 t.1 k.1 l.1 w.1;
+      upper_bound = omega (arith, n.end_bound, m.end_bound, t.end_bound, k.end_bound, l.end_bound, w.upper_bound);
+      text_after = ended-parts c.args.e _ _ _ _ _ _ [] (n.text_after ∙ ap (decimal c.args.e.records) (drop_of_length-le c.args.text.now g)) m.text_after t.text_after k.text_after l.text_after w.text_after;
     }
