@@ -1,7 +1,6 @@
 -- `index_room` adds the rooms of line 0, its switch and the new lines; the switch takes the place of one record. Assumes nothing.
 use native.Mathlib.Omega.{arith}
 use Rattle.index_writer.proofs.IndexLaws.{switch-some}
-use borrow.Author.Rules.{rules}
 use Rattle.index_size.proofs.index_room.Goals as goal
 
 pub overflow_sub-switch : goal.overflow_sub-switch

@@ -6,7 +6,6 @@ use Rattle.indexing_iter.specs.declared.Checked.{Checked}
 use Rattle.indexing_iter.specs.Checks.{check_build}
 use Rattle.index_writer.proofs.IndexLaws.{below, small, few}
 use Rattle.index_size.proofs.SizeLaws.{refused-by, sized-by}
-use borrow.Author.Rules.{rules}
 use Rattle.index_size.proofs.index_size.Goals.{In-Passed}
 use Rattle.index_size.proofs.index_size.Goals as goal
 

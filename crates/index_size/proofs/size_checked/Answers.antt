@@ -1,7 +1,6 @@
 -- `size_checked` lends the fronts of its columns. Assumes nothing.
 use native.Mathlib.Omega.{arith}
 use lib.ListN.{length-take}
-use borrow.Author.Rules.{rules}
 use Rattle.index_size.proofs.size_checked.Goals as goal
 
 pub slice_bounds-size_line-end : goal.slice_bounds-size_line-end

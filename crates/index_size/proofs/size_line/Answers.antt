@@ -6,7 +6,6 @@ use Rattle.index_writer.specs.Choices.{AllKnown}
 use Rattle.index_writer.proofs.ColumnLaws.{starts-below, offsets-known}
 use Rattle.index_writer.proofs.IndexLaws.{checked, above, below, small}
 use Rattle.index_size.proofs.SizeLaws.{counted-by}
-use borrow.Author.Rules.{rules}
 use Rattle.index_size.proofs.size_line.Goals as goal
 
 pub start_offsets-requires : goal.start_offsets-requires

@@ -1,12 +1,6 @@
 -- `buckets::any_bucket` tells whether a group has a bucket: none of the clauses passed opens one. Assumes nothing.
-use mathlib.Core.Path.{◌≡◌, refl, sym, ◌∙◌}
-use mathlib.Core.Bool.{false}
-use Prim.Native.Nat.{◌-◌, ◌≤◌}
+use mathlib.Core.Path.{refl, sym, ◌∙◌}
 use native.Mathlib.Omega.{arith}
-use lib.ListN.{length}
-use borrow.Author.Rules.{rules}
-use Rattle.indexing.specs.Upto.{any_to}
-use Rattle.indexing.specs.Columns.{opens_bucket}
 use Rattle.indexing.proofs.BridgeLists.{any-hit}
 use Rattle.index_writer.proofs.Upto.{any_none, any-skip, any-end}
 use Rattle.index_writer.proofs.buckets.any_bucket.Goals as goal

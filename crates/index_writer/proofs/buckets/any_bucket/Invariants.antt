@@ -1,13 +1,9 @@
-use mathlib.Core.Path.{◌≡◌, refl, sym, ◌∙◌}
+use mathlib.Core.Path.{◌≡◌}
 use mathlib.Core.Bool.{false}
 use Prim.Native.Nat.{◌-◌, ◌≤◌}
-use native.Mathlib.Omega.{arith}
 use lib.ListN.{length}
-use borrow.Author.Rules.{rules}
 use Rattle.indexing.specs.Upto.{any_to}
 use Rattle.indexing.specs.Columns.{opens_bucket}
-use Rattle.indexing.proofs.BridgeLists.{any-hit}
-use Rattle.index_writer.proofs.Upto.{any_none, any-skip, any-end}
 use Rattle.index_writer.proofs.buckets.any_bucket.Given as goal
 
 abbrev pub invariant-loop-i : goal.invariant-loop-i

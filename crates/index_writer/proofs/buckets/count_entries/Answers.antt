@@ -1,11 +1,7 @@
 -- `buckets::count_entries` counts the entries of a group. Assumes nothing.
-use mathlib.Core.Path.{◌≡◌, refl, sym, ◌∙◌}
-use Prim.Native.Nat.{◌-◌}
+use mathlib.Core.Path.{refl, sym, ◌∙◌}
 use native.Mathlib.Omega.{arith}
-use lib.ListN.{length}
-use borrow.Author.Rules.{rules}
-use Rattle.indexing.specs.Columns.{opens_bucket}
-use Rattle.index_writer.proofs.Upto.{Counted, counted_start, counted-yes, counted-no, counted-end}
+use Rattle.index_writer.proofs.Upto.{counted_start, counted-yes, counted-no, counted-end}
 use Rattle.index_writer.proofs.buckets.count_entries.Goals.{then-opens_bucket, else-opens_bucket}
 use Rattle.index_writer.proofs.buckets.count_entries.Goals as goal
 

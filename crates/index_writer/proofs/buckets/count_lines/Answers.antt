@@ -1,11 +1,8 @@
 -- `buckets::count_lines` counts the lines of a group. Assumes nothing.
-use mathlib.Core.Path.{◌≡◌, refl, sym, ◌∙◌}
-use Prim.Native.Nat.{◌-◌}
+use mathlib.Core.Path.{refl, sym, ◌∙◌}
 use native.Mathlib.Omega.{arith}
-use lib.ListN.{length}
-use borrow.Author.Rules.{rules}
-use Rattle.indexing.specs.Columns.{opens_line, lines_to}
-use Rattle.index_writer.proofs.Upto.{Counted, counted_start, counted-yes, counted-no, counted-end}
+use Rattle.indexing.specs.Columns.{lines_to}
+use Rattle.index_writer.proofs.Upto.{counted_start, counted-yes, counted-no, counted-end}
 use Rattle.index_writer.proofs.buckets.count_lines.Goals.{then-opens_line, else-opens_line}
 use Rattle.index_writer.proofs.buckets.count_lines.Goals as goal
 

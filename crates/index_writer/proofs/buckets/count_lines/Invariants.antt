@@ -1,11 +1,8 @@
-use mathlib.Core.Path.{◌≡◌, refl, sym, ◌∙◌}
-use mathlib.Core.Logic.{⊎_elim}
+use mathlib.Core.Path.{◌≡◌}
 use Prim.Native.Nat.{◌-◌}
-use native.Mathlib.Omega.{arith}
 use lib.ListN.{length}
-use borrow.Author.Rules.{rules}
-use Rattle.indexing.specs.Columns.{opens_line, lines_to}
-use Rattle.index_writer.proofs.Upto.{Counted, counted_start, counted-yes, counted-no, counted-end}
+use Rattle.indexing.specs.Columns.{opens_line}
+use Rattle.index_writer.proofs.Upto.{Counted}
 use Rattle.index_writer.proofs.buckets.count_lines.Given as goal
 
 abbrev pub invariant-loop-i : goal.invariant-loop-i

@@ -1,7 +1,6 @@
 -- `buckets::count_list_entries` counts the entries of the list group. Assumes nothing.
 use mathlib.Core.Path.{sym, ◌∙◌}
 use native.Mathlib.Omega.{arith}
-use borrow.Author.Rules.{rules}
 use Rattle.index_writer.proofs.buckets.count_list_entries.Goals as goal
 
 pub returns-then-empty_list : goal.returns-then-empty_list

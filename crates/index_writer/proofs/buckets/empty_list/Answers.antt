@@ -1,6 +1,5 @@
 -- `buckets::empty_list` tells whether a line has a list line for no clause. Assumes nothing.
 use Rattle.indexing.specs.Columns.{empty_list}
-use borrow.Author.Rules.{rules}
 use Rattle.index_writer.proofs.buckets.empty_list.Goals as goal
 
 pub returns-then-dynamic : goal.returns-then-dynamic

@@ -1,7 +1,6 @@
 -- `buckets::line_step` is one where a clause opens a line of a group, else nothing. Assumes nothing.
 use mathlib.Core.Path.{sym, ◌∙◌}
 use native.Mathlib.Omega.{arith}
-use borrow.Author.Rules.{rules}
 use Rattle.index_writer.proofs.buckets.line_step.Goals as goal
 
 pub returns-then-opens_line : goal.returns-then-opens_line

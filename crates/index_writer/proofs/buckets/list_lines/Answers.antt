@@ -2,7 +2,6 @@
 use mathlib.Core.Path.{sym, ◌∙◌}
 use native.Mathlib.Omega.{arith}
 use Rattle.indexing.specs.Columns.{list_lines}
-use borrow.Author.Rules.{rules}
 use Rattle.index_writer.proofs.buckets.list_lines.Goals as goal
 
 pub returns-then-empty_list : goal.returns-then-empty_list

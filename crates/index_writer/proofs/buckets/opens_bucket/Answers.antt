@@ -1,8 +1,6 @@
 -- `buckets::opens_bucket` tells whether a clause opens a bucket of a group. Assumes nothing.
-use native.Mathlib.Omega.{arith}
 use borrow.Author.Tests.{eq-eqb, ne_eqb}
 use Rattle.indexing.specs.Columns.{leads, opens_bucket}
-use borrow.Author.Rules.{rules}
 use Rattle.index_writer.proofs.buckets.opens_bucket.Goals as goal
 
 pub returns-then-leaders-i : goal.returns-then-leaders-i

@@ -1,7 +1,6 @@
 -- `buckets::opens_line` tells whether a clause opens a bucket of a group that is a line. Assumes nothing.
 use mathlib.Core.Path.{sym, ◌∙◌}
 use Rattle.indexing.specs.Columns.{opens_line}
-use borrow.Author.Rules.{rules}
 use Rattle.index_writer.proofs.buckets.opens_line.Goals as goal
 
 pub returns-then-opens_bucket : goal.returns-then-opens_bucket

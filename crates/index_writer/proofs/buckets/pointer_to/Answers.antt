@@ -1,6 +1,5 @@
 -- `buckets::pointer_to` is the word of an entry: the pointer to a line, or an offset. Assumes nothing.
 use mathlib.Core.Path.{sym, ◌∙◌}
-use borrow.Author.Rules.{rules}
 use Rattle.index_writer.proofs.buckets.pointer_to.Goals as goal
 
 pub returns-then-needs_line : goal.returns-then-needs_line

@@ -1,10 +1,9 @@
 -- `buckets::put_entries` writes the entries of a group: turn i writes that of clause i, if it opens a bucket. Assumes nothing.
 use mathlib.Core.Path.{◌≡◌, ap}
-use Prim.Native.Nat.{ℕ, ◌+◌, ◌-◌, ◌≤◌}
+use Prim.Native.Nat.{ℕ, ◌+◌}
 use native.Mathlib.Omega.{arith}
-use lib.ListN.{length}
 use Rattle.indexing.specs.Columns.{lines_to, entry_at, entries}
-use Rattle.index_writer.proofs.Gather.{Gathered, gather-start, gather-room, gather-more, gather-end}
+use Rattle.index_writer.proofs.Gather.{gather-start, gather-room, gather-more, gather-end}
 use Rattle.index_writer.proofs.BucketLaws.{lines_start, lines_step, lines-le, distance-at, distance-grown}
 use Rattle.index_writer.proofs.buckets.put_entries.Goals.{In-loop-i}
 use Rattle.index_writer.proofs.buckets.put_entries.Goals as goal

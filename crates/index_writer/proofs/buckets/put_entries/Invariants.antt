@@ -1,10 +1,8 @@
-use mathlib.Core.Path.{◌≡◌, ap}
-use Prim.Native.Nat.{ℕ, ◌+◌, ◌-◌, ◌≤◌}
-use native.Mathlib.Omega.{arith}
+use mathlib.Core.Path.{◌≡◌}
+use Prim.Native.Nat.{◌+◌, ◌-◌, ◌≤◌}
 use lib.ListN.{length}
-use Rattle.indexing.specs.Columns.{lines_to, entry_at, entries}
-use Rattle.index_writer.proofs.Gather.{Gathered, gather-start, gather-room, gather-more, gather-end}
-use Rattle.index_writer.proofs.BucketLaws.{lines_start, lines_step, lines-le, distance-at, distance-grown}
+use Rattle.indexing.specs.Columns.{lines_to, entry_at}
+use Rattle.index_writer.proofs.Gather.{Gathered}
 use Rattle.index_writer.proofs.buckets.put_entries.Given as goal
 
 abbrev pub invariant-loop-i : goal.invariant-loop-i

@@ -10,7 +10,6 @@ use Rattle.records.proofs.Laws.{length-records_of}
 use Rattle.indexing.specs.Columns.{entry_of, entry_at}
 use Rattle.index_writer.proofs.Left.{one-room, puts_one, puts_none}
 use Rattle.index_writer.proofs.BucketLaws.{entry-yes, entry-no, pointer_is}
-use borrow.Author.Rules.{rules}
 use Rattle.index_writer.proofs.buckets.put_entry.Goals.{Then-opens_bucket}
 use Rattle.index_writer.proofs.buckets.put_entry.Goals as goal
 

@@ -9,7 +9,6 @@ use Rattle.records.proofs.Laws.{length-records_of}
 use Rattle.indexing.specs.Columns.{entries, list_entries}
 use Rattle.index_writer.proofs.Left.{one-room, room_as, puts_one, puts-as}
 use Rattle.index_writer.proofs.BucketLaws.{list-empty, list_full}
-use borrow.Author.Rules.{rules}
 use Rattle.index_writer.proofs.buckets.put_list_entries.Goals.{Else-empty_list, Then-empty_list}
 use Rattle.index_writer.proofs.buckets.put_list_entries.Goals as goal
 

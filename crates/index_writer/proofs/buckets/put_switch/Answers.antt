@@ -5,13 +5,11 @@ use mathlib.Core.List.{List, ◌∷◌, ◌++◌}
 use lib.ListN.{length}
 use Prim.Native.Nat.{ℕ, ◌+◌, ◌≤◌}
 use native.Mathlib.Omega.{arith}
-use Rattle.records.specs.declared.Rec.{Rec}
 use Rattle.records.specs.Records.{rec_of, records_of}
 use Rattle.records.proofs.Laws.{length-records_of}
 use Rattle.indexing.specs.Columns.{list_lines, lines_to, entries, list_entries, switch_recs}
 use Rattle.index_writer.proofs.Left.{Left, left-start, left-place, left-room, left_one, left-run, left-all}
 use Rattle.index_writer.proofs.BucketLaws.{switch-parts, distance-first, distance_next, distance-small}
-use borrow.Author.Rules.{rules}
 use Rattle.index_writer.proofs.buckets.put_switch.Goals.{After-put, After-put_entries-q, After-put_list_entries-q}
 use Rattle.index_writer.proofs.buckets.put_switch.Goals as goal
 

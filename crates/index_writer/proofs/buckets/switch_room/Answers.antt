@@ -1,7 +1,6 @@
 -- `buckets::switch_room` counts the records of the switch and its entries. Assumes nothing.
 use native.Mathlib.Omega.{arith}
 use Rattle.index_writer.proofs.BucketLaws.{length-switch}
-use borrow.Author.Rules.{rules}
 use Rattle.index_writer.proofs.buckets.switch_room.Goals as goal
 
 pub returns : goal.returns

@@ -1,10 +1,8 @@
 -- `choices::count_members` counts the clauses that clause i leads, one test a turn. Assumes nothing.
-use mathlib.Core.Path.{◌≡◌, refl, sym, ◌∙◌}
-use Prim.Native.Nat.{◌-◌}
+use mathlib.Core.Path.{refl, sym, ◌∙◌}
 use native.Mathlib.Omega.{arith}
-use lib.ListN.{length}
-use Rattle.indexing.specs.Columns.{member, size_of}
-use Rattle.index_writer.proofs.Upto.{Counted, counted_start, counted-yes, counted-no, counted-end}
+use Rattle.indexing.specs.Columns.{size_of}
+use Rattle.index_writer.proofs.Upto.{counted_start, counted-yes, counted-no, counted-end}
 use Rattle.index_writer.proofs.choices.count_members.Goals.{then-in_bucket, else-in_bucket}
 use Rattle.index_writer.proofs.choices.count_members.Goals as goal
 

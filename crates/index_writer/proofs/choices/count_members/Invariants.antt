@@ -1,10 +1,8 @@
-use mathlib.Core.Path.{◌≡◌, refl, sym, ◌∙◌}
-use mathlib.Core.Logic.{⊎_elim}
+use mathlib.Core.Path.{◌≡◌}
 use Prim.Native.Nat.{◌-◌}
-use native.Mathlib.Omega.{arith}
 use lib.ListN.{length}
-use Rattle.indexing.specs.Columns.{member, size_of}
-use Rattle.index_writer.proofs.Upto.{Counted, counted_start, counted-yes, counted-no, counted-end}
+use Rattle.indexing.specs.Columns.{member}
+use Rattle.index_writer.proofs.Upto.{Counted}
 use Rattle.index_writer.proofs.choices.count_members.Given as goal
 
 abbrev pub invariant-loop-j : goal.invariant-loop-j

@@ -2,12 +2,11 @@
 use mathlib.Core.Path.{◌≡◌, refl, ap₂}
 use Prim.Native.Nat.{ℕ, ◌-◌}
 use native.Mathlib.Omega.{arith}
-use lib.ListN.{length}
 use Rattle.indexing.specs.Upto.{count_to}
-use Rattle.indexing.specs.Columns.{member, size_of, choice_at, choices}
+use Rattle.indexing.specs.Columns.{member, choice_at, choices}
 use Rattle.index_writer.proofs.Upto.{count-le}
-use Rattle.index_writer.proofs.Gather.{Gathered, gather-start, gather-room, gather-more, gather-end}
-use Rattle.index_writer.proofs.LineLaws.{choice_of, length-members}
+use Rattle.index_writer.proofs.Gather.{gather-start, gather-room, gather-more, gather-end}
+use Rattle.index_writer.proofs.LineLaws.{length-members}
 use Rattle.index_writer.proofs.choices.put_choices.Goals as goal
 
 pub loop-j-init : goal.loop-j-init

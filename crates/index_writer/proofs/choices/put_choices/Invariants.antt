@@ -1,12 +1,9 @@
-use mathlib.Core.Path.{◌≡◌, refl, ap₂}
-use Prim.Native.Nat.{ℕ, ◌-◌}
-use native.Mathlib.Omega.{arith}
+use mathlib.Core.Path.{◌≡◌}
+use Prim.Native.Nat.{◌-◌}
 use lib.ListN.{length}
-use Rattle.indexing.specs.Upto.{count_to}
-use Rattle.indexing.specs.Columns.{member, size_of, choice_at, choices}
-use Rattle.index_writer.proofs.Upto.{count-le}
-use Rattle.index_writer.proofs.Gather.{Gathered, gather-start, gather-room, gather-more, gather-end}
-use Rattle.index_writer.proofs.LineLaws.{choice_of, length-members}
+use Rattle.indexing.specs.Columns.{size_of}
+use Rattle.index_writer.proofs.Gather.{Gathered}
+use Rattle.index_writer.proofs.LineLaws.{choice_of}
 use Rattle.index_writer.proofs.choices.put_choices.Given as goal
 
 abbrev pub invariant-loop-j : goal.invariant-loop-j

@@ -1,5 +1,4 @@
 -- `choices::tag` gives the tag by the definition's cases, in their order. Assumes nothing.
-use borrow.Author.Rules.{rules}
 use borrow.Author.Tests.{eq-eqb, ne_eqb}
 use Rattle.indexing.specs.Columns.{tag_at}
 use Rattle.index_writer.proofs.choices.tag.Goals as goal

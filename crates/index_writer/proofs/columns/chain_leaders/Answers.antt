@@ -1,12 +1,10 @@
 -- The leaders of the first j clauses stand, and those that lead are in their buckets. Assumes nothing.
-use mathlib.Core.Path.{◌≡◌, refl, sym, ◌∙◌}
-use Prim.Native.Nat.{◌-◌}
+use mathlib.Core.Path.{refl, sym, ◌∙◌}
 use native.Mathlib.Omega.{arith}
 use borrow.Author.Rules.{rules}
 use lib.ListN.{length, get_or-replicate}
-use Rattle.records.proofs.Filled.{Filled, fill_start, fill_more}
+use Rattle.records.proofs.Filled.{fill_start, fill_more}
 use Rattle.indexing.specs.Columns.{leaders_to}
-use Rattle.indexing.specs.Chains.{Chained}
 use Rattle.index_writer.specs.Chains.{leads_in}
 use Rattle.index_writer.proofs.ColumnLaws.{fill-whole, length-leaders, get_or-leaders}
 use Rattle.indexing.proofs.Chains.{chained-none}

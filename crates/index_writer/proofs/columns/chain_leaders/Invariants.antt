@@ -1,14 +1,10 @@
-use mathlib.Core.Path.{◌≡◌, refl, sym, ◌∙◌}
+use mathlib.Core.Path.{◌≡◌}
 use Prim.Native.Nat.{◌-◌}
-use native.Mathlib.Omega.{arith}
-use borrow.Author.Rules.{rules}
-use lib.ListN.{length, get_or-replicate}
-use Rattle.records.proofs.Filled.{Filled, fill_start, fill_more}
+use lib.ListN.{length}
+use Rattle.records.proofs.Filled.{Filled}
 use Rattle.indexing.specs.Columns.{leaders_to}
 use Rattle.indexing.specs.Chains.{Chained}
 use Rattle.index_writer.specs.Chains.{leads_in}
-use Rattle.index_writer.proofs.ColumnLaws.{fill-whole, length-leaders, get_or-leaders}
-use Rattle.indexing.proofs.Chains.{chained-none}
 use Rattle.index_writer.proofs.columns.chain_leaders.Given as goal
 
 abbrev pub invariant-loop-j : goal.invariant-loop-j

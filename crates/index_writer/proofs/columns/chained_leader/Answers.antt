@@ -1,9 +1,9 @@
 -- The leaders before the present one of the chain tell which leads clause j: clauses passed over lead none of its bucket. Assumes nothing.
 use mathlib.Core.Path.{sym, ◌∙◌}
-use Prim.Native.Nat.{◌-◌, ◌≤◌}
+use Prim.Native.Nat.{◌-◌}
 use native.Mathlib.Omega.{arith}
 use borrow.Author.Rules.{rules}
-use Rattle.index_writer.proofs.LeaderLaws.{At, leader-found, leader-own, leader-start, leader-less, leader-next}
+use Rattle.index_writer.proofs.LeaderLaws.{leader-found, leader-own, leader-start, leader-less, leader-next}
 use Rattle.index_writer.proofs.columns.chained_leader.Goals as goal
 
 pub loop-number-init : goal.loop-number-init

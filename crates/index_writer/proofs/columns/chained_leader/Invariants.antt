@@ -1,8 +1,5 @@
-use mathlib.Core.Path.{sym, ◌∙◌}
-use Prim.Native.Nat.{◌-◌, ◌≤◌}
-use native.Mathlib.Omega.{arith}
-use borrow.Author.Rules.{rules}
-use Rattle.index_writer.proofs.LeaderLaws.{At, leader-found, leader-own, leader-start, leader-less, leader-next}
+use Prim.Native.Nat.{◌≤◌}
+use Rattle.index_writer.proofs.LeaderLaws.{At}
 use Rattle.index_writer.proofs.columns.chained_leader.Given as goal
 
 abbrev pub invariant-loop-number : goal.invariant-loop-number

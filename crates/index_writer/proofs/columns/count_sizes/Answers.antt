@@ -1,9 +1,9 @@
 -- The sizes by the first j clauses stand. Assumes nothing.
 use mathlib.Core.Path.{◌≡◌, refl, ap, ◌∙◌}
-use Prim.Native.Nat.{ℕ, ◌+◌, ◌-◌, ◌≤◌, ◌<◌}
+use Prim.Native.Nat.{ℕ, ◌+◌, ◌≤◌, ◌<◌}
 use native.Mathlib.Omega.{arith}
 use lib.ListN.{length, get_or, replicate, length-set, length-replicate}
-use Rattle.index_writer.proofs.ColumnLaws.{sizes_by, sizes-small, sizes-none, sizes-more, sizes-all}
+use Rattle.index_writer.proofs.ColumnLaws.{sizes-small, sizes-none, sizes-more, sizes-all}
 use borrow.Author.Rules.{rules}
 use Rattle.index_writer.proofs.columns.count_sizes.Goals as goal
 

@@ -1,9 +1,7 @@
-use mathlib.Core.Path.{◌≡◌, refl, ap, ◌∙◌}
-use Prim.Native.Nat.{ℕ, ◌+◌, ◌-◌, ◌≤◌, ◌<◌}
-use native.Mathlib.Omega.{arith}
-use lib.ListN.{length, get_or, replicate, length-set, length-replicate}
-use Rattle.index_writer.proofs.ColumnLaws.{sizes_by, sizes-small, sizes-none, sizes-more, sizes-all}
-use borrow.Author.Rules.{rules}
+use mathlib.Core.Path.{◌≡◌}
+use Prim.Native.Nat.{◌-◌, ◌≤◌}
+use lib.ListN.{length}
+use Rattle.index_writer.proofs.ColumnLaws.{sizes_by}
 use Rattle.index_writer.proofs.columns.count_sizes.Given as goal
 
 abbrev pub invariant-loop-j : goal.invariant-loop-j

@@ -5,7 +5,6 @@ use Rattle.records.specs.Records.{records_of}
 use Rattle.indexing_iter.specs.Classes.{class_of}
 use Rattle.indexing_iter.specs.Clauses.{key_of}
 use Rattle.index_writer.proofs.FillingLaws.{columns_of}
-use borrow.Author.Rules.{rules}
 use Rattle.index_writer.proofs.columns.fill_columns.Goals as goal
 
 pub read_keys-requires : goal.read_keys-requires

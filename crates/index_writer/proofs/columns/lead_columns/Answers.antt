@@ -2,7 +2,6 @@
 use native.Mathlib.Omega.{arith}
 use lib.ListN.{length}
 use Rattle.index_writer.proofs.ColumnLaws.{leaders-below}
-use borrow.Author.Rules.{rules}
 use Rattle.index_writer.proofs.columns.lead_columns.Goals as goal
 
 pub count_sizes-requires : goal.count_sizes-requires

@@ -1,7 +1,4 @@
 -- The places from i on give the leader of clause j. Assumes nothing.
-use mathlib.Core.Path.{◌≡◌}
-use Prim.Native.Nat.{◌-◌, ◌≤◌}
-use Rattle.indexing.specs.Columns.{first_same, leader_of}
 use Rattle.index_writer.proofs.ColumnLaws.{leader-start, leader-step, leader-none}
 use borrow.Author.Rules.{rules}
 use Rattle.index_writer.proofs.columns.leader_of.Goals as goal

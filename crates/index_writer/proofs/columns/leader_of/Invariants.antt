@@ -1,8 +1,6 @@
 use mathlib.Core.Path.{◌≡◌}
 use Prim.Native.Nat.{◌-◌, ◌≤◌}
 use Rattle.indexing.specs.Columns.{first_same, leader_of}
-use Rattle.index_writer.proofs.ColumnLaws.{leader-start, leader-step, leader-none}
-use borrow.Author.Rules.{rules}
 use Rattle.index_writer.proofs.columns.leader_of.Given as goal
 
 abbrev pub invariant-loop-i : goal.invariant-loop-i

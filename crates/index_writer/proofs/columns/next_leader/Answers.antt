@@ -3,7 +3,6 @@ use mathlib.Core.Path.{sym, ◌∙◌}
 use native.Mathlib.Omega.{arith}
 use Rattle.index_writer.specs.Chains.{bucket_at}
 use Rattle.index_writer.proofs.LeaderLaws.{leader-pushed, leader-passed}
-use borrow.Author.Rules.{rules}
 use Rattle.index_writer.proofs.columns.next_leader.Goals as goal
 
 pub chained_leader-leader-requires : goal.chained_leader-leader-requires

@@ -1,7 +1,6 @@
 -- `columns::open_number` meets its contract. Assumes nothing.
 use borrow.Author.Tests.{eq-eqb, ne_eqb, lt-ltb, le-ltb}
 use mathlib.Core.Path.{refl}
-use borrow.Author.Rules.{rules}
 use Rattle.index_writer.proofs.columns.open_number.Goals as goal
 
 pub returns-then-n-b : goal.returns-then-n-b

@@ -1,9 +1,7 @@
 -- The first b numbers of the row stand. Assumes nothing.
-use mathlib.Core.Path.{◌≡◌, sym, ◌∙◌}
-use Prim.Native.Nat.{◌-◌}
+use mathlib.Core.Path.{sym, ◌∙◌}
 use native.Mathlib.Omega.{arith}
-use lib.ListN.{length}
-use Rattle.records.proofs.Filled.{Filled, fill_start, fill_more}
+use Rattle.records.proofs.Filled.{fill_start, fill_more}
 use Rattle.index_writer.specs.Choices.{open_numbers}
 use Rattle.index_writer.proofs.ColumnLaws.{fill-whole, length-open, get_or-open}
 use borrow.Author.Rules.{rules}

@@ -1,11 +1,8 @@
-use mathlib.Core.Path.{◌≡◌, sym, ◌∙◌}
+use mathlib.Core.Path.{◌≡◌}
 use Prim.Native.Nat.{◌-◌}
-use native.Mathlib.Omega.{arith}
 use lib.ListN.{length}
-use Rattle.records.proofs.Filled.{Filled, fill_start, fill_more}
+use Rattle.records.proofs.Filled.{Filled}
 use Rattle.index_writer.specs.Choices.{open_numbers}
-use Rattle.index_writer.proofs.ColumnLaws.{fill-whole, length-open, get_or-open}
-use borrow.Author.Rules.{rules}
 use Rattle.index_writer.proofs.columns.put_open_row.Given as goal
 
 abbrev pub invariant-loop-b : goal.invariant-loop-b

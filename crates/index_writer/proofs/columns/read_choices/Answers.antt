@@ -2,17 +2,16 @@
 use Rattle.records.specs.declared.Rec.{Rec}
 use Rattle.records.proofs.Laws.{length-records_of}
 use mathlib.Core.Path.{◌≡◌, sym, ap, ◌∙◌}
-use Prim.Native.Nat.{ℕ, ◌+◌, ◌-◌}
+use Prim.Native.Nat.{ℕ, ◌+◌}
 use mathlib.Core.List.{map}
 use native.Mathlib.Omega.{arith}
 use lib.ListN.{length, get_or}
 use lib.Seq.{slice}
 use Rattle.records.specs.Records.{records_of}
-use Rattle.records.proofs.Filled.{Filled, fill_start, fill_more}
+use Rattle.records.proofs.Filled.{fill_start, fill_more}
 use Rattle.indexing.specs.Columns.{words_of}
 use Rattle.index_writer.specs.Choices.{subs_of}
 use Rattle.index_writer.proofs.ColumnLaws.{fill-whole, length-field, get_or-field}
-use borrow.Author.Rules.{rules}
 use Rattle.index_writer.proofs.columns.read_choices.Goals as goal
 
 pub loop-i-init : goal.loop-i-init

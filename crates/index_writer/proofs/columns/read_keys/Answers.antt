@@ -1,15 +1,13 @@
 -- The keys and rows of the first i clauses stand. Assumes nothing.
-use mathlib.Core.Path.{◌≡◌, refl, sym, ◌∙◌}
+use mathlib.Core.Path.{refl, sym, ◌∙◌}
 use Prim.Native.Nat.{◌+◌, ◌-◌, ◌*◌}
 use native.Mathlib.Omega.{arith}
-use lib.ListN.{length}
 use Rattle.records.specs.Records.{records_of}
-use Rattle.records.proofs.Filled.{Filled, fill_start, fill_more}
+use Rattle.records.proofs.Filled.{fill_start, fill_more}
 use Rattle.indexing_iter.specs.Classes.{class_of}
 use Rattle.indexing_iter.specs.Clauses.{key_of}
-use Rattle.indexing.specs.Columns.{heads_to, bits_to}
 use Rattle.indexing.proofs.BridgeColumns.{length-heads, length-bits, get_or-heads, get_d_bits}
-use Rattle.index_writer.proofs.ColumnLaws.{fill-whole, column-room, column-in, column-done, Rows, rows_start, row-wide, row_room, rows_more, rows_end}
+use Rattle.index_writer.proofs.ColumnLaws.{fill-whole, column-room, column-in, column-done, rows_start, row-wide, row_room, rows_more, rows_end}
 use borrow.Author.Rules.{rules}
 use Rattle.index_writer.proofs.columns.read_keys.Goals as goal
 

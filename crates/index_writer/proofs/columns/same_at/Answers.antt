@@ -1,5 +1,4 @@
 -- `columns::same_at` compares the two numbers of the keys. Assumes nothing.
-use borrow.Author.Rules.{rules}
 use Rattle.indexing.specs.Columns.{same_at}
 use Rattle.index_writer.proofs.columns.same_at.Goals as goal
 

@@ -1,12 +1,10 @@
 -- The leaders of the first j clauses stand. Assumes nothing.
-use mathlib.Core.Path.{◌≡◌, refl, sym, ◌∙◌}
-use Prim.Native.Nat.{◌-◌}
+use mathlib.Core.Path.{refl, sym, ◌∙◌}
 use native.Mathlib.Omega.{arith}
 use lib.ListN.{length}
-use Rattle.records.proofs.Filled.{Filled, fill_start, fill_more}
+use Rattle.records.proofs.Filled.{fill_start, fill_more}
 use Rattle.indexing.specs.Columns.{leaders_to}
 use Rattle.index_writer.proofs.ColumnLaws.{fill-whole, length-leaders, get_or-leaders}
-use borrow.Author.Rules.{rules}
 use Rattle.index_writer.proofs.columns.search_leaders.Goals as goal
 
 pub loop-j-init : goal.loop-j-init

@@ -1,11 +1,8 @@
-use mathlib.Core.Path.{◌≡◌, refl, sym, ◌∙◌}
+use mathlib.Core.Path.{◌≡◌}
 use Prim.Native.Nat.{◌-◌}
-use native.Mathlib.Omega.{arith}
 use lib.ListN.{length}
-use Rattle.records.proofs.Filled.{Filled, fill_start, fill_more}
+use Rattle.records.proofs.Filled.{Filled}
 use Rattle.indexing.specs.Columns.{leaders_to}
-use Rattle.index_writer.proofs.ColumnLaws.{fill-whole, length-leaders, get_or-leaders}
-use borrow.Author.Rules.{rules}
 use Rattle.index_writer.proofs.columns.search_leaders.Given as goal
 
 abbrev pub invariant-loop-j : goal.invariant-loop-j

@@ -1,11 +1,10 @@
 -- The offsets stand, and the first i tags. Assumes nothing.
-use mathlib.Core.Path.{◌≡◌, refl}
-use Prim.Native.Nat.{ℕ, ◌-◌}
+use mathlib.Core.Path.{refl}
+use Prim.Native.Nat.{ℕ}
 use native.Mathlib.Omega.{arith}
 use lib.ListN.{length, replicate, length-replicate, get_or-replicate}
-use Rattle.records.proofs.Filled.{Filled, fill_start, fill_more}
+use Rattle.records.proofs.Filled.{fill_start, fill_more}
 use Rattle.index_writer.proofs.ColumnLaws.{fill-whole}
-use borrow.Author.Rules.{rules}
 use Rattle.index_writer.proofs.columns.start_choices.Goals as goal
 
 pub loop-i-init : goal.loop-i-init

@@ -1,10 +1,7 @@
-use mathlib.Core.Path.{◌≡◌, refl}
+use mathlib.Core.Path.{◌≡◌}
 use Prim.Native.Nat.{ℕ, ◌-◌}
-use native.Mathlib.Omega.{arith}
-use lib.ListN.{length, replicate, length-replicate, get_or-replicate}
-use Rattle.records.proofs.Filled.{Filled, fill_start, fill_more}
-use Rattle.index_writer.proofs.ColumnLaws.{fill-whole}
-use borrow.Author.Rules.{rules}
+use lib.ListN.{length, replicate}
+use Rattle.records.proofs.Filled.{Filled}
 use Rattle.index_writer.proofs.columns.start_choices.Given as goal
 
 abbrev pub invariant-loop-i : goal.invariant-loop-i

@@ -1,9 +1,9 @@
 -- The first i offsets stand. Assumes nothing.
 use mathlib.Core.Path.{◌≡◌, refl}
-use Prim.Native.Nat.{ℕ, ◌-◌, suc}
+use Prim.Native.Nat.{ℕ, suc}
 use native.Mathlib.Omega.{arith}
 use lib.ListN.{length, length-map}
-use Rattle.records.proofs.Filled.{Filled, fill_start, fill_more}
+use Rattle.records.proofs.Filled.{fill_start, fill_more}
 use Rattle.indexing_iter.specs.Clauses.{offsets_of}
 use Rattle.index_writer.proofs.ColumnLaws.{fill-whole, get_or-offsets}
 use borrow.Author.Rules.{rules}

@@ -1,11 +1,8 @@
-use mathlib.Core.Path.{◌≡◌, refl}
-use Prim.Native.Nat.{ℕ, ◌-◌, suc}
-use native.Mathlib.Omega.{arith}
-use lib.ListN.{length, length-map}
-use Rattle.records.proofs.Filled.{Filled, fill_start, fill_more}
+use mathlib.Core.Path.{◌≡◌}
+use Prim.Native.Nat.{◌-◌}
+use lib.ListN.{length}
+use Rattle.records.proofs.Filled.{Filled}
 use Rattle.indexing_iter.specs.Clauses.{offsets_of}
-use Rattle.index_writer.proofs.ColumnLaws.{fill-whole, get_or-offsets}
-use borrow.Author.Rules.{rules}
 use Rattle.index_writer.proofs.columns.start_offsets.Given as goal
 
 abbrev pub invariant-loop-i : goal.invariant-loop-i

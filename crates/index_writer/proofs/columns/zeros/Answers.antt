@@ -1,11 +1,10 @@
 -- The first i numbers are 0. Assumes nothing.
-use mathlib.Core.Path.{◌≡◌, refl}
-use Prim.Native.Nat.{ℕ, ◌-◌}
+use mathlib.Core.Path.{refl}
+use Prim.Native.Nat.{ℕ}
 use native.Mathlib.Omega.{arith}
 use lib.ListN.{length, replicate, length-replicate, get_or-replicate}
-use Rattle.records.proofs.Filled.{Filled, fill_start, fill_more}
+use Rattle.records.proofs.Filled.{fill_start, fill_more}
 use Rattle.index_writer.proofs.ColumnLaws.{fill-whole}
-use borrow.Author.Rules.{rules}
 use Rattle.index_writer.proofs.columns.zeros.Goals as goal
 
 pub loop-i-init : goal.loop-i-init

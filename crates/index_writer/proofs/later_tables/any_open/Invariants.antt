@@ -1,13 +1,10 @@
-use mathlib.Core.Path.{◌≡◌, refl, sym, ap, ◌∙◌}
+use mathlib.Core.Path.{◌≡◌}
 use mathlib.Core.Bool.{false}
 use mathlib.Core.List.{[]}
 use Prim.Native.Nat.{◌-◌, ◌≤◌}
-use native.Mathlib.Omega.{arith}
 use lib.ListN.{length}
 use Rattle.indexing.specs.Upto.{any_to}
 use Rattle.indexing.specs.Columns.{open_member}
-use Rattle.indexing.proofs.BridgeLists.{any-hit}
-use Rattle.index_writer.proofs.Upto.{any_none, any-skip}
 use Rattle.index_writer.proofs.later_tables.any_open.Given as goal
 
 abbrev pub invariant-loop-j : goal.invariant-loop-j

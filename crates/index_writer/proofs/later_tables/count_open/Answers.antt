@@ -1,11 +1,7 @@
 -- `later_tables::count_open` counts the open clauses of the bucket, one test a turn. Assumes nothing.
-use mathlib.Core.Path.{◌≡◌, refl, sym, ◌∙◌}
-use mathlib.Core.List.{[]}
-use Prim.Native.Nat.{◌-◌}
+use mathlib.Core.Path.{refl, sym, ◌∙◌}
 use native.Mathlib.Omega.{arith}
-use lib.ListN.{length}
-use Rattle.indexing.specs.Columns.{open_member}
-use Rattle.index_writer.proofs.Upto.{Counted, counted_start, counted-yes, counted-no, counted-end}
+use Rattle.index_writer.proofs.Upto.{counted_start, counted-yes, counted-no, counted-end}
 use Rattle.index_writer.proofs.later_tables.count_open.Goals.{then-open_member, else-open_member}
 use Rattle.index_writer.proofs.later_tables.count_open.Goals as goal
 

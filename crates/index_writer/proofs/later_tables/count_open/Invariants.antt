@@ -1,11 +1,9 @@
-use mathlib.Core.Path.{◌≡◌, refl, sym, ◌∙◌}
-use mathlib.Core.Logic.{⊎_elim}
+use mathlib.Core.Path.{◌≡◌}
 use mathlib.Core.List.{[]}
 use Prim.Native.Nat.{◌-◌}
-use native.Mathlib.Omega.{arith}
 use lib.ListN.{length}
 use Rattle.indexing.specs.Columns.{open_member}
-use Rattle.index_writer.proofs.Upto.{Counted, counted_start, counted-yes, counted-no, counted-end}
+use Rattle.index_writer.proofs.Upto.{Counted}
 use Rattle.index_writer.proofs.later_tables.count_open.Given as goal
 
 abbrev pub invariant-loop-j : goal.invariant-loop-j

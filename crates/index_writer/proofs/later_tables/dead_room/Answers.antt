@@ -1,5 +1,4 @@
 -- `later_tables::dead_room` counts the dead table's record and its clauses. Assumes nothing.
-use borrow.Author.Rules.{rules}
 use native.Mathlib.Omega.{arith}
 use Rattle.indexing.specs.Columns.{dead_recs}
 use Rattle.index_writer.proofs.LineLaws.{length-dead}

@@ -1,5 +1,4 @@
 -- `later_tables::open_member` answers whether a clause of the bucket has no key at an argument. Assumes nothing.
-use borrow.Author.Rules.{rules}
 use mathlib.Core.Path.{sym, ◌∙◌}
 use Rattle.indexing.specs.Columns.{open_member}
 use Rattle.index_writer.proofs.later_tables.open_member.Goals as goal

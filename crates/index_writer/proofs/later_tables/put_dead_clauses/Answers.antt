@@ -1,13 +1,8 @@
 -- `later_tables::put_dead_clauses` writes the dead clauses of a bucket: turn j writes that of clause j, if it is open. Assumes nothing.
-use mathlib.Core.Path.{◌≡◌, refl}
-use mathlib.Core.Bool.{cond}
-use mathlib.Core.List.{[], ◌∷◌}
-use Prim.Native.Nat.{◌-◌}
+use mathlib.Core.Path.{refl}
 use native.Mathlib.Omega.{arith}
-use lib.ListN.{length, get_or}
-use Rattle.records.specs.Records.{rec_of}
-use Rattle.indexing.specs.Columns.{open_member, dead_clauses}
-use Rattle.index_writer.proofs.Gather.{Gathered, gather-start, gather-room, gather-more, gather-end}
+use Rattle.indexing.specs.Columns.{dead_clauses}
+use Rattle.index_writer.proofs.Gather.{gather-start, gather-room, gather-more, gather-end}
 use Rattle.index_writer.proofs.later_tables.put_dead_clauses.Goals as goal
 
 pub loop-j-init : goal.loop-j-init

@@ -1,12 +1,11 @@
-use mathlib.Core.Path.{◌≡◌, refl}
+use mathlib.Core.Path.{◌≡◌}
 use mathlib.Core.Bool.{cond}
 use mathlib.Core.List.{[], ◌∷◌}
 use Prim.Native.Nat.{◌-◌}
-use native.Mathlib.Omega.{arith}
 use lib.ListN.{length, get_or}
 use Rattle.records.specs.Records.{rec_of}
-use Rattle.indexing.specs.Columns.{open_member, dead_clauses}
-use Rattle.index_writer.proofs.Gather.{Gathered, gather-start, gather-room, gather-more, gather-end}
+use Rattle.indexing.specs.Columns.{open_member}
+use Rattle.index_writer.proofs.Gather.{Gathered}
 use Rattle.index_writer.proofs.later_tables.put_dead_clauses.Given as goal
 
 abbrev pub invariant-loop-j : goal.invariant-loop-j

@@ -1,5 +1,4 @@
 -- `later_tables::put_dead_table` writes the dead table's record, and its clauses after it. Assumes nothing.
-use borrow.Author.Rules.{rules}
 use native.Mathlib.Omega.{arith}
 use mathlib.Core.Path.{refl}
 use mathlib.Core.List.{◌∷◌}

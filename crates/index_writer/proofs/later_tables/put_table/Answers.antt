@@ -1,5 +1,4 @@
 -- `later_tables::put_table` writes the table for an argument by the definition's cases: none, dead, on demand. Assumes nothing.
-use borrow.Author.Rules.{rules}
 use mathlib.Core.Path.{◌≡◌, refl, sym, ◌∙◌}
 use mathlib.Core.List.{◌∷◌, []}
 use Prim.Native.Nat.{◌<◌}

@@ -1,9 +1,8 @@
 -- `later_tables::put_tables` writes the tables of a line: turn t writes that for argument b + t. Assumes nothing.
 use mathlib.Core.Path.{refl}
-use Prim.Native.Nat.{◌+◌, ◌-◌}
 use native.Mathlib.Omega.{arith}
-use Rattle.indexing.specs.Columns.{table_at, tables_at}
-use Rattle.index_writer.proofs.Gather.{Gathered, gather-start, gather-room, gather-more, gather-end}
+use Rattle.indexing.specs.Columns.{tables_at}
+use Rattle.index_writer.proofs.Gather.{gather-start, gather-room, gather-more, gather-end}
 use Rattle.index_writer.proofs.later_tables.put_tables.Goals as goal
 
 pub loop-t-init : goal.loop-t-init

@@ -1,8 +1,6 @@
-use mathlib.Core.Path.{refl}
 use Prim.Native.Nat.{◌+◌, ◌-◌}
-use native.Mathlib.Omega.{arith}
-use Rattle.indexing.specs.Columns.{table_at, tables_at}
-use Rattle.index_writer.proofs.Gather.{Gathered, gather-start, gather-room, gather-more, gather-end}
+use Rattle.indexing.specs.Columns.{table_at}
+use Rattle.index_writer.proofs.Gather.{Gathered}
 use Rattle.index_writer.proofs.later_tables.put_tables.Given as goal
 
 abbrev pub invariant-loop-t : goal.invariant-loop-t

@@ -1,5 +1,4 @@
 -- `later_tables::table_room` counts the records of a table by the definition's cases. Assumes nothing.
-use borrow.Author.Rules.{rules}
 use mathlib.Core.Path.{sym, ap, ◌∙◌}
 use native.Mathlib.Omega.{arith}
 use lib.ListN.{length}

@@ -1,12 +1,9 @@
-use mathlib.Core.Path.{◌≡◌, sym, ap, ◌∙◌}
+use mathlib.Core.Path.{◌≡◌}
 use mathlib.Core.List.{List}
 use Prim.Native.Nat.{ℕ, ◌+◌, ◌-◌, ◌*◌, ◌≤◌}
-use native.Mathlib.Omega.{arith}
 use lib.ListN.{length}
 use Rattle.indexing.specs.Upto.{list_to}
-use Rattle.indexing.specs.Columns.{table_at, tables_at}
-use Rattle.index_writer.proofs.Upto.{list-none}
-use Rattle.index_writer.proofs.LineLaws.{length_more}
+use Rattle.indexing.specs.Columns.{table_at}
 use Rattle.index_writer.proofs.later_tables.tables_room.Given as goal
 
 abbrev pub invariant-loop-t : goal.invariant-loop-t

@@ -1,11 +1,10 @@
 -- `lines::put_group` writes the lines of a group: turn i writes that of clause i, whose number counts the lines before it. Assumes nothing.
 use mathlib.Core.Path.{◌≡◌, refl, ap}
-use Prim.Native.Nat.{ℕ, ◌+◌, ◌-◌, ◌≤◌}
+use Prim.Native.Nat.{ℕ, ◌+◌}
 use native.Mathlib.Omega.{arith}
-use lib.ListN.{length}
-use Rattle.indexing.specs.Columns.{lines_to, line_at, group_lines}
+use Rattle.indexing.specs.Columns.{line_at, group_lines}
 use Rattle.index_writer.proofs.BucketLaws.{lines_start, lines_step, lines-le}
-use Rattle.index_writer.proofs.Gather.{Gathered, gather-start, gather-room, gather-more, gather-end}
+use Rattle.index_writer.proofs.Gather.{gather-start, gather-room, gather-more, gather-end}
 use Rattle.index_writer.proofs.LineLaws.{line_in}
 use Rattle.index_writer.proofs.lines.put_group.Goals.{In-loop-i}
 use Rattle.index_writer.proofs.lines.put_group.Goals as goal

@@ -1,10 +1,8 @@
-use mathlib.Core.Path.{◌≡◌, refl, ap}
-use Prim.Native.Nat.{ℕ, ◌+◌, ◌-◌, ◌≤◌}
-use native.Mathlib.Omega.{arith}
+use mathlib.Core.Path.{◌≡◌}
+use Prim.Native.Nat.{◌+◌, ◌-◌, ◌≤◌}
 use lib.ListN.{length}
-use Rattle.indexing.specs.Columns.{lines_to, line_at, group_lines}
-use Rattle.index_writer.proofs.BucketLaws.{lines_start, lines_step, lines-le}
-use Rattle.index_writer.proofs.Gather.{Gathered, gather-start, gather-room, gather-more, gather-end}
+use Rattle.indexing.specs.Columns.{lines_to}
+use Rattle.index_writer.proofs.Gather.{Gathered}
 use Rattle.index_writer.proofs.LineLaws.{line_in}
 use Rattle.index_writer.proofs.lines.put_group.Given as goal
 

@@ -1,5 +1,4 @@
 -- `lines::put_line_at` writes one line or none. Assumes nothing.
-use borrow.Author.Rules.{rules}
 use mathlib.Core.Path.{◌≡◌, sym, ◌∙◌}
 use mathlib.Core.List.{[]}
 use Rattle.indexing.specs.Columns.{line_of, line_at}

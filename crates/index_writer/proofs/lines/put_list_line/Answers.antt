@@ -1,5 +1,4 @@
 -- `lines::put_list_line` writes the lines of the list group, or the line of no clause. Assumes nothing.
-use borrow.Author.Rules.{rules}
 use mathlib.Core.Path.{◌≡◌, sym, ◌∙◌}
 use mathlib.Core.List.{[]}
 use lib.ListN.{length}

@@ -1,5 +1,4 @@
 -- `lines::put_new_lines` writes the lines of the list, the structures and the literals, each group numbered on from the one before. Assumes nothing.
-use borrow.Author.Rules.{rules}
 use mathlib.Core.Path.{◌≡◌, ap}
 use lib.ListN.{length}
 use mathlib.Core.List.{List, ◌++◌}

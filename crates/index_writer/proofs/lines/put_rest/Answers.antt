@@ -1,5 +1,4 @@
 -- `lines::put_rest` writes the tables of a line, and its offsets after them. Assumes nothing.
-use borrow.Author.Rules.{rules}
 use native.Mathlib.Omega.{arith}
 use mathlib.Core.Path.{refl}
 use Rattle.index_writer.proofs.Left.{Left, left-start, left-room, left-run, left-all}

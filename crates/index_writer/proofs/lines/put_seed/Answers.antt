@@ -1,5 +1,4 @@
 -- `lines::put_seed` writes the line record, the on-demand record for the argument, and the rest of line 0 after them. Assumes nothing.
-use borrow.Author.Rules.{rules}
 use mathlib.Core.Path.{ap, ◌∙◌}
 use mathlib.Core.List.{[], ◌∷◌, ◌++◌}
 use Prim.Native.Nat.{ℕ}

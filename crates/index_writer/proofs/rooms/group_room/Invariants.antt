@@ -1,12 +1,9 @@
-use mathlib.Core.Path.{◌≡◌, refl, sym, ap, ◌∙◌}
+use mathlib.Core.Path.{◌≡◌}
 use mathlib.Core.List.{List}
-use Prim.Native.Nat.{ℕ, ◌+◌, ◌-◌, ◌*◌, ◌≤◌}
-use native.Mathlib.Omega.{arith}
+use Prim.Native.Nat.{ℕ, ◌-◌, ◌*◌, ◌≤◌}
 use lib.ListN.{length}
 use Rattle.indexing.specs.Upto.{list_to}
-use Rattle.indexing.specs.Columns.{lines_to, group_lines}
-use Rattle.index_writer.proofs.Upto.{list-none}
-use Rattle.index_writer.proofs.LineLaws.{line_in, length_more}
+use Rattle.index_writer.proofs.LineLaws.{line_in}
 use Rattle.index_writer.proofs.rooms.group_room.Given as goal
 
 abbrev pub invariant-loop-i : goal.invariant-loop-i

@@ -1,5 +1,4 @@
 -- `rooms::line_room` counts the line record and the rest of the line. Assumes nothing.
-use borrow.Author.Rules.{rules}
 use mathlib.Core.Path.{ap}
 use native.Mathlib.Omega.{arith}
 use lib.ListN.{length}

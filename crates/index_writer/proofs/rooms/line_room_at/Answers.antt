@@ -1,5 +1,4 @@
 -- `rooms::line_room_at` counts the records of one line or none. Assumes nothing.
-use borrow.Author.Rules.{rules}
 use mathlib.Core.Path.{sym, ap, ◌∙◌}
 use mathlib.Core.List.{[]}
 use native.Mathlib.Omega.{arith}

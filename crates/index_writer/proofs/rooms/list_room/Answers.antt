@@ -1,5 +1,4 @@
 -- `rooms::list_room` counts the records of the line for no clause, or of the list group. Assumes nothing.
-use borrow.Author.Rules.{rules}
 use mathlib.Core.Path.{sym, ap, ◌∙◌}
 use mathlib.Core.List.{[]}
 use native.Mathlib.Omega.{arith}

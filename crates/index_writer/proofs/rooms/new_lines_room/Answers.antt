@@ -1,5 +1,4 @@
 -- `rooms::new_lines_room` adds the counts of the three groups. Assumes nothing.
-use borrow.Author.Rules.{rules}
 use mathlib.Core.Path.{refl}
 use Prim.Native.Nat.{ℕ, ◌+◌}
 use native.Mathlib.Omega.{arith}

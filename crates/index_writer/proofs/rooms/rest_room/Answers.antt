@@ -1,5 +1,4 @@
 -- `rooms::rest_room` counts the records of a line's tables and offsets. Assumes nothing.
-use borrow.Author.Rules.{rules}
 use native.Mathlib.Omega.{arith}
 use Rattle.index_writer.proofs.LineLaws.{length_rest}
 use Rattle.index_writer.proofs.rooms.rest_room.Goals as goal

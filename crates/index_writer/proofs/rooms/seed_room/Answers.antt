@@ -1,5 +1,4 @@
 -- `rooms::seed_room` counts the two first records of line 0 and the rest of it. Assumes nothing.
-use borrow.Author.Rules.{rules}
 use mathlib.Core.Path.{ap}
 use native.Mathlib.Omega.{arith}
 use lib.ListN.{length}
