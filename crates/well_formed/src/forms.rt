@@ -29,6 +29,7 @@ pub fn may_rise(marks: &[u8], offset: u32, first: u32) -> bool
 }
 
 // An offset's tag is 6 or 7 if dynamic, else 1 to 5.
+#[tactic(auto, unfolding(crate::specs::Pass::tag_in))]
 pub fn tag_ok(dynamic: bool, tag: u8) -> bool
     ensures { result ≡ tag_in dynamic tag }
 {

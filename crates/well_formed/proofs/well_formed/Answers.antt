@@ -1,4 +1,5 @@
 -- Number 12 with small tables or with large ones. Assumes nothing.
+use native.Mathlib.Omega.{arith}
 use borrow.Author.Rules.{rules}
 use Rattle.well_formed.proofs.Marking.{rising-higher}
 use Rattle.well_formed.proofs.well_formed.Goals as goal
@@ -7,7 +8,7 @@ pub formed_few-requires : goal.formed_few-requires
 formed_few-requires c =
     record {
       count_in_bounds = search rules;
-      starts_value = (rising-higher 2047 c.args.n c.args.starts.now c.if-n-le2047.true c.requires.starts_value.0, c.requires.arity_bound);
+      starts_value = (rising-higher 2047 c.args.n c.args.starts.now (omega arith) c.requires.starts_value.0, c.requires.arity_bound);
     }
 
 pub formed_many-requires : goal.formed_many-requires
