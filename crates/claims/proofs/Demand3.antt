@@ -35,7 +35,7 @@ use Rattle.indexing_scan.specs.Agree.{Call}
 use Rattle.indexing_scan.specs.ByArgument.{walk_by}
 use Rattle.indexing_scan.specs.Calls.{argument_ok, call_of, check_index, Walked, case_number, walked_by, result_of, walk_call}
 use Rattle.indexing_scan.specs.Walk.{Step, Case, fail, external, sequence, variadic, line, Answer, Result, walk}
-use Rattle.claims.specs.Demand3.{Asked, Rises, no_more, then, args_of, walked, walk_fresh, selected, Unlimited, Accepted, Each}
+use Rattle.claims.specs.Demand3.{Asked, Rises, no_more, then, args_of, walked, walk_fresh, selected, Unlimited, Accepted}
 use Rattle.claims.specs.Demand3.{count_after, calls_after, Every, Demand3}
 use Rattle.claims.proofs.Accepted.{Ready, ready, built-checked, built-room, built-is}
 use Rattle.claims.proofs.Runs as Runs

@@ -1,7 +1,7 @@
 -- The builder's call: result and every byte of the index buffer, for every input (document 01, sections 3 and "What each call gives back").
 -- And the size call: the record count that the builder would need, with no buffer.
 -- Assumes nothing.
-use Rattle.std.specs.Prelude.{ℕ, ◌+◌, ◌*◌, ◌/◌, min, Bool, cond, List, ◌++◌, ltb, length, drop}
+use Rattle.std.specs.Prelude.{ℕ, ◌*◌, ◌/◌, min, Bool, cond, List, ◌++◌, ltb, length, drop}
 use Rattle.records.specs.Records.{records_of, encode}
 use Rattle.indexing_iter.specs.declared.Settings.{Settings}
 use Rattle.indexing_iter.specs.declared.Checked.{Checked}

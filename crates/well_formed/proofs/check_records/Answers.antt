@@ -1,19 +1,18 @@
 -- The records read have passed, and what is kept is the state of the reading; a record that fails fails all. Assumes nothing.
-use mathlib.Core.Path.{◌≡◌, refl, sym, ◌∙◌}
-use Prim.Native.Nat.{◌+◌, ◌-◌, ◌≤◌, ◌<◌}
+use mathlib.Core.Path.{refl, sym, ◌∙◌}
+use Prim.Native.Nat.{◌-◌, ◌≤◌, ◌<◌}
 use native.Mathlib.Omega.{arith}
-use borrow.Author.Rules.{rules}
 use lib.ListN.{length}
 use lib.Seq.{slice, slice_empty}
 use Rattle.records.specs.Records.{records_of}
 use Rattle.well_formed.specs.Pass.{marked}
-use Rattle.well_formed.proofs.PassCode.{Met, Here, met_start, met-within, step-refused, keys-refused, met-turn, met-end}
+use Rattle.well_formed.proofs.PassCode.{Here, met_start, met-within, step-refused, keys-refused, met-turn, met-end}
 use Rattle.well_formed.proofs.check_records.Goals.{After-get-r}
 use Rattle.well_formed.proofs.check_records.Goals as goal
 
 -- in a turn: the record in front of those that have passed
 here : (c : After-get-r)
-    → 
+    →
     let a = c.args in
     Here a.arity a.dynamic (marked a.marks.now) a.total (records_of a.index.now) a.count c.loop-i.i c.get-r.result
     c.loop-i.s c.loop-i.firsts

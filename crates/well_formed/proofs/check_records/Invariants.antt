@@ -1,13 +1,10 @@
-use mathlib.Core.Path.{◌≡◌, refl, sym, ◌∙◌}
-use Prim.Native.Nat.{◌+◌, ◌-◌, ◌≤◌, ◌<◌}
-use native.Mathlib.Omega.{arith}
-use borrow.Author.Rules.{rules}
-use borrow.Author.Tests.{not-true, not-false}
+use mathlib.Core.Path.{◌≡◌}
+use Prim.Native.Nat.{◌+◌, ◌≤◌}
 use lib.ListN.{length}
-use lib.Seq.{slice, slice_empty}
+use lib.Seq.{slice}
 use Rattle.records.specs.Records.{records_of}
 use Rattle.well_formed.specs.Pass.{marked}
-use Rattle.well_formed.proofs.PassCode.{Met, Here, met_start, met-within, step-refused, keys-refused, met-turn, met-end}
+use Rattle.well_formed.proofs.PassCode.{Met}
 use Rattle.well_formed.proofs.check_records.Given as goal
 
 abbrev pub invariant-loop-i : goal.invariant-loop-i

@@ -1,12 +1,9 @@
-use mathlib.Core.Path.{◌≡◌, refl, ap, ◌∙◌}
-use Prim.Native.Nat.{ℕ, ◌+◌, ◌-◌, ◌≤◌}
-use native.Mathlib.Omega.{arith}
-use borrow.Author.Rules.{rules}
+use mathlib.Core.Path.{◌≡◌}
+use Prim.Native.Nat.{◌+◌, ◌≤◌}
 use lib.ListN.{length}
-use lib.Seq.{slice, slice_empty}
+use lib.Seq.{slice}
 use Rattle.records.specs.Records.{records_of}
 use Rattle.indexing.specs.Reading.{parse}
-use Rattle.well_formed.proofs.Marking.{lines_more}
 use Rattle.well_formed.proofs.count_lines.Given as goal
 
 abbrev pub invariant-loop-i : goal.invariant-loop-i

@@ -5,7 +5,7 @@ use Rattle.well_formed.proofs.formed_many.Goals as goal
 
 pub formed_with-requires : goal.formed_with-requires
 formed_with-requires c = record {
-      count_in_bounds = search rules;
-      starts_value = (search rules, search rules, get_or-zeros 32769);
-      arity_bound = search rules;
-    }
+  count_in_bounds = search rules;
+  starts_value = (search rules, search rules, get_or-zeros 32769);
+  arity_bound = search rules;
+}

@@ -1,17 +1,15 @@
 -- The offsets of the starts met so far are marked, the last start first. Assumes nothing.
 use mathlib.Core.Path.{◌≡◌, refl, ◌∙◌}
-use Prim.Native.Nat.{ℕ, ◌+◌, ◌-◌, ◌≤◌, ◌<◌}
+use Prim.Native.Nat.{ℕ, ◌+◌, ◌-◌, ◌<◌}
 use native.Mathlib.Omega.{arith}
-use borrow.Author.Rules.{rules}
-use lib.ListN.{length, get_or, drop, length-set}
-use Rattle.well_formed.specs.Pass.{Marks}
+use lib.ListN.{length, get_or, length-set}
 use Rattle.well_formed.proofs.Marking.{marks-none, marks-more, start-below}
 use Rattle.well_formed.proofs.mark_starts.Goals.{After-shared_slice_known-1}
 use Rattle.well_formed.proofs.mark_starts.Goals as goal
 
 -- a start lies below the code's end, and its offset within the marks
 within : (c : After-shared_slice_known-1)
-    → 
+    →
     get_or c.args.starts.now (c.loop-i.i - 1) 0 + 1 < length c.loop-i.marks
 within c =
     let n : ℕ = length c.args.marks.now - 1 in

@@ -1,10 +1,7 @@
-use mathlib.Core.Path.{◌≡◌, refl, ◌∙◌}
-use Prim.Native.Nat.{ℕ, ◌+◌, ◌-◌, ◌≤◌, ◌<◌}
-use native.Mathlib.Omega.{arith}
-use borrow.Author.Rules.{rules}
-use lib.ListN.{length, get_or, drop, length-set}
+use mathlib.Core.Path.{◌≡◌}
+use Prim.Native.Nat.{◌≤◌}
+use lib.ListN.{length, drop}
 use Rattle.well_formed.specs.Pass.{Marks}
-use Rattle.well_formed.proofs.Marking.{marks-none, marks-more, start-below}
 use Rattle.well_formed.proofs.mark_starts.Given as goal
 
 abbrev pub invariant-loop-i : goal.invariant-loop-i

@@ -2,7 +2,6 @@
 use mathlib.Core.Path.{refl}
 use native.Mathlib.Nat.{mod-lt}
 use Rattle.indexing.specs.Chains.{bucket_by}
-use borrow.Author.Rules.{rules}
 use Rattle.indexing.proofs.key_buckets.bucket_of.Goals as goal
 
 pub returns : goal.returns

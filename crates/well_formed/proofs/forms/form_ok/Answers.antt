@@ -22,17 +22,17 @@ returns-then-sort-lt1 c = simp (ne_eqb _ _ c.if-sort-eq4.false, ne_eqb _ _ c.if-
 pub returns-then-sort-gt3 : goal.returns-then-sort-gt3
 unfolding form_ok
 returns-then-sort-gt3 c = simp (
-      ne_eqb _ _ c.if-sort-eq4.false,
-      ne_eqb _ _ c.if-sort-eq5.false,
-      le-leb _ _ c.if-sort-lt1.false,
-      lt-leb _ _ c.if-sort-gt3.true,
-    )
+  ne_eqb _ _ c.if-sort-eq4.false,
+  ne_eqb _ _ c.if-sort-eq5.false,
+  le-leb _ _ c.if-sort-lt1.false,
+  lt-leb _ _ c.if-sort-gt3.true,
+)
 
 pub returns : goal.returns
 unfolding form_ok
 returns c = simp (
-      ne_eqb _ _ c.if-sort-eq4.false,
-      ne_eqb _ _ c.if-sort-eq5.false,
-      le-leb _ _ c.if-sort-lt1.false,
-      le-leb _ _ c.if-sort-gt3.false,
-    )
+  ne_eqb _ _ c.if-sort-eq4.false,
+  ne_eqb _ _ c.if-sort-eq5.false,
+  le-leb _ _ c.if-sort-lt1.false,
+  le-leb _ _ c.if-sort-gt3.false,
+)

@@ -1,6 +1,5 @@
 -- The bound of an internal pointer. Assumes nothing.
 use borrow.Author.Tests.{le-ltb, lt-ltb}
-use borrow.Author.Rules.{rules}
 use Rattle.well_formed.proofs.forms.inner_reach.Goals as goal
 
 pub returns-then-distance-lt1 : goal.returns-then-distance-lt1

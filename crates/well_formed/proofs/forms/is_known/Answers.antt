@@ -2,7 +2,6 @@
 use mathlib.Core.Path.{refl}
 use lib.ListN.{get_or-eq_default}
 use Rattle.well_formed.specs.Pass.{marked}
-use borrow.Author.Rules.{rules}
 use Rattle.well_formed.proofs.forms.is_known.Goals as goal
 
 pub returns-then-at-marks : goal.returns-then-at-marks

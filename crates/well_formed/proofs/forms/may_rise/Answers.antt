@@ -2,7 +2,6 @@
 use mathlib.Core.Path.{sym, ◌∙◌}
 use borrow.Author.Tests.{eq-eqb, ne_eqb}
 use Rattle.well_formed.specs.Pass.{rises}
-use borrow.Author.Rules.{rules}
 use Rattle.well_formed.proofs.forms.may_rise.Goals as goal
 
 pub returns-then-not-is_known : goal.returns-then-not-is_known

@@ -1,6 +1,5 @@
 -- The bound of an external pointer. Assumes nothing.
 use mathlib.Core.Path.{sym, ◌∙◌}
-use borrow.Author.Rules.{rules}
 use Rattle.well_formed.proofs.forms.outer_reach.Goals as goal
 
 pub returns-then-dynamic : goal.returns-then-dynamic

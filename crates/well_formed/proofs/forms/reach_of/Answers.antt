@@ -4,7 +4,6 @@ use Prim.Native.Nat.{◌<◌}
 use native.Mathlib.Omega.{arith}
 use Rattle.well_formed.specs.Pass.{reach_in}
 use Rattle.well_formed.proofs.StepLaws.{pointer-int, pointer-ext}
-use borrow.Author.Rules.{rules}
 use Rattle.well_formed.proofs.forms.reach_of.Goals as goal
 
 pub returns-then-is_internal : goal.returns-then-is_internal

@@ -1,12 +1,12 @@
 -- The keys read are distinct, and their entries stand in chains; an entry whose key is in its chain makes all keys not distinct. Assumes nothing.
 use mathlib.Core.Path.{◌≡◌, refl, sym, ◌∙◌}
-use Prim.Native.Nat.{◌-◌, ◌≤◌}
+use Prim.Native.Nat.{◌-◌}
 use native.Mathlib.Omega.{arith}
 use borrow.Author.Rules.{rules}
 use lib.ListN.{length}
 use Rattle.records.specs.Records.{records_of}
 use Rattle.well_formed.specs.Chains.{bucket_of}
-use Rattle.well_formed.proofs.ChainLaws.{ReadFrom, read_none, read_behind, read_more, read_twice}
+use Rattle.well_formed.proofs.ChainLaws.{read_none, read_behind, read_more, read_twice}
 use Rattle.well_formed.proofs.keys.distinct_chained.Goals.{After-bucket_of-bucket}
 use Rattle.well_formed.proofs.keys.distinct_chained.Goals as goal
 

@@ -1,11 +1,8 @@
-use mathlib.Core.Path.{◌≡◌, refl, sym, ◌∙◌}
-use Prim.Native.Nat.{◌-◌, ◌≤◌}
-use native.Mathlib.Omega.{arith}
-use borrow.Author.Rules.{rules}
+use mathlib.Core.Path.{◌≡◌}
+use Prim.Native.Nat.{◌≤◌}
 use lib.ListN.{length}
 use Rattle.records.specs.Records.{records_of}
-use Rattle.well_formed.specs.Chains.{bucket_of}
-use Rattle.well_formed.proofs.ChainLaws.{ReadFrom, read_none, read_behind, read_more, read_twice}
+use Rattle.well_formed.proofs.ChainLaws.{ReadFrom}
 use Rattle.well_formed.proofs.keys.distinct_chained.Given as goal
 
 abbrev pub invariant-loop-i : goal.invariant-loop-i

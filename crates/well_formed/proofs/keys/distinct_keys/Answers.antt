@@ -1,6 +1,5 @@
 -- The same answer in each of the ways. Assumes nothing.
 use mathlib.Core.Path.{sym}
-use borrow.Author.Rules.{rules}
 use Rattle.records.specs.Records.{records_of}
 use Rattle.well_formed.proofs.KeyParts.{distinct_none}
 use Rattle.well_formed.proofs.keys.distinct_keys.Goals as goal

@@ -5,7 +5,7 @@ use Rattle.well_formed.proofs.keys.distinct_many.Goals as goal
 
 pub distinct_chained-requires : goal.distinct_chained-requires
 distinct_chained-requires c = record {
-      from_le_to = search rules;
-      from_in_bounds = search rules;
-      heads_nonzero = (search rules, get_or-zeros 16381);
-    }
+  from_le_to = search rules;
+  from_in_bounds = search rules;
+  heads_nonzero = (search rules, get_or-zeros 16381);
+}

@@ -1,5 +1,5 @@
 -- The keys that are left are distinct where all are. Assumes nothing.
-use Prim.Native.Nat.{◌-◌, ◌+◌}
+use Prim.Native.Nat.{◌+◌}
 use mathlib.Core.Path.{◌≡◌}
 use mathlib.Core.Bool.{not, ◌&&◌}
 use lib.Seq.{slice}
@@ -15,7 +15,7 @@ turn : (c : After-key_among)
     → let a = c.args in
     let rs = records_of a.index.now in
     (not c.key_among.result && distinct_keys (slice (c.loop-i.i + 1) a.to rs)) ≡ distinct_keys (slice a.from a.to rs)
-turn c =     let a = c.args in
+turn c = let a = c.args in
     let rs = records_of a.index.now in
     let k : c.key_among.result ≡ among c.get-r.result (slice (c.loop-i.i + 1) a.to rs) = c.key_among.ensures in
     rw (distinct-step _ rs _ _ c.loop-i-test.true (search rules) c.get-r.ensures, ← k)

@@ -1,11 +1,8 @@
-use Prim.Native.Nat.{◌-◌, ◌+◌}
+use Prim.Native.Nat.{◌-◌}
 use mathlib.Core.Path.{◌≡◌}
-use mathlib.Core.Bool.{not, ◌&&◌}
 use lib.Seq.{slice}
-use borrow.Author.Rules.{rules}
 use Rattle.records.specs.Records.{records_of}
-use Rattle.well_formed.specs.Pass.{among, distinct_keys}
-use Rattle.well_formed.proofs.KeyParts.{distinct-step, distinct_none}
+use Rattle.well_formed.specs.Pass.{distinct_keys}
 use Rattle.well_formed.proofs.keys.distinct_pairs.Given as goal
 
 abbrev pub invariant-loop-i : goal.invariant-loop-i

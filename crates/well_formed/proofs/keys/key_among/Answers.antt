@@ -1,9 +1,8 @@
 -- One of the entries that are left has the key where one of all has it. Assumes nothing.
-use Prim.Native.Nat.{◌-◌, ◌+◌}
+use Prim.Native.Nat.{◌+◌}
 use mathlib.Core.Path.{◌≡◌}
 use mathlib.Core.Bool.{◌||◌}
 use lib.Seq.{slice}
-use borrow.Author.Rules.{rules}
 use Rattle.records.specs.Records.{records_of}
 use Rattle.well_formed.specs.Pass.{among}
 use Rattle.well_formed.proofs.KeyParts.{among-step, among_none}
@@ -12,7 +11,7 @@ use Rattle.well_formed.proofs.keys.key_among.Goals as goal
 
 -- in a turn: whether the record at i has the key, and whether one after it has
 turn : (c : After-key_at)
-    → 
+    →
     let a = c.args in
     let rs = records_of a.index.now in
     (c.key_at.result || among a.r (slice (c.loop-i.i + 1) a.to rs)) ≡ among a.r (slice a.from a.to rs)

@@ -1,11 +1,8 @@
-use Prim.Native.Nat.{◌-◌, ◌+◌}
+use Prim.Native.Nat.{◌-◌}
 use mathlib.Core.Path.{◌≡◌}
-use mathlib.Core.Bool.{◌||◌}
 use lib.Seq.{slice}
-use borrow.Author.Rules.{rules}
 use Rattle.records.specs.Records.{records_of}
 use Rattle.well_formed.specs.Pass.{among}
-use Rattle.well_formed.proofs.KeyParts.{among-step, among_none}
 use Rattle.well_formed.proofs.keys.key_among.Given as goal
 
 abbrev pub invariant-loop-i : goal.invariant-loop-i

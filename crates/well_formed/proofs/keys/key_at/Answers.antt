@@ -1,5 +1,4 @@
 -- The entry is read, and its fields compared. Assumes nothing.
-use borrow.Author.Rules.{rules}
 use Rattle.well_formed.proofs.keys.key_at.Goals as goal
 
 pub returns : goal.returns

@@ -1,11 +1,9 @@
 -- The entries up to the present one of the chain tell whether one has the key: those passed over are of other buckets. Assumes nothing.
-use mathlib.Core.Path.{◌≡◌, sym, ◌∙◌}
-use Prim.Native.Nat.{◌-◌, ◌≤◌}
+use mathlib.Core.Path.{sym, ◌∙◌}
+use Prim.Native.Nat.{◌-◌}
 use native.Mathlib.Omega.{arith}
 use borrow.Author.Rules.{rules}
-use lib.ListN.{length, get_or}
-use Rattle.records.specs.Records.{records_of, zero_rec}
-use Rattle.well_formed.proofs.ChainLaws.{At, start, found, shorter, follow, followed}
+use Rattle.well_formed.proofs.ChainLaws.{start, found, shorter, follow, followed}
 use Rattle.well_formed.proofs.keys.key_chained.Goals as goal
 
 pub loop-number-init : goal.loop-number-init
@@ -30,13 +28,12 @@ loop-number-smaller c =
     omega (arith, shorter _ _ _ _ _ _ (search rules) (search rules) _ c.requires.chained _ (c.loop-number.number - 1) (omega arith) c.loop-number.invariant.2)
 
 pub loop-number-preserved : goal.loop-number-preserved
-loop-number-preserved c =
-     (
-      c.loop-number.invariant.0,
-      omega arith,
-      follow _ _ _ _ _ _ (search rules) (search rules) _ c.requires.chained _ (c.loop-number.number - 1) (omega arith) c.loop-number.invariant.2
-          (sym c.key_at.ensures ∙ c.if-key_at.false),
-    )
+loop-number-preserved c = (
+  c.loop-number.invariant.0,
+  omega arith,
+  follow _ _ _ _ _ _ (search rules) (search rules) _ c.requires.chained _ (c.loop-number.number - 1) (omega arith) c.loop-number.invariant.2
+      (sym c.key_at.ensures ∙ c.if-key_at.false),
+)
 
 pub returns : goal.returns
 returns c =

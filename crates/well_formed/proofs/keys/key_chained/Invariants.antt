@@ -1,10 +1,8 @@
-use mathlib.Core.Path.{◌≡◌, sym, ◌∙◌}
-use Prim.Native.Nat.{◌-◌, ◌≤◌}
-use native.Mathlib.Omega.{arith}
-use borrow.Author.Rules.{rules}
+use mathlib.Core.Path.{◌≡◌}
+use Prim.Native.Nat.{◌≤◌}
 use lib.ListN.{length, get_or}
 use Rattle.records.specs.Records.{records_of, zero_rec}
-use Rattle.well_formed.proofs.ChainLaws.{At, start, found, shorter, follow, followed}
+use Rattle.well_formed.proofs.ChainLaws.{At}
 use Rattle.well_formed.proofs.keys.key_chained.Given as goal
 
 abbrev pub invariant-loop-number : goal.invariant-loop-number

@@ -2,7 +2,6 @@
 use native.Mathlib.Omega.{arith}
 use borrow.Author.Tests.{eq-eqb, ne_eqb}
 use Rattle.records.proofs.Laws.{length-records_of}
-use borrow.Author.Rules.{rules}
 use Rattle.well_formed.proofs.keys.keys_ok.Goals as goal
 
 pub overflow_add-to : goal.overflow_add-to

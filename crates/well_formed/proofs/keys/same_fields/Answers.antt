@@ -1,7 +1,6 @@
 -- Two keys are equal if their two numbers are: sort and arity, and the bits. Assumes nothing.
 use Rattle.indexing_iter.proofs.SameKeys.{same-by-numbers}
 use Rattle.well_formed.specs.Pass.{same_fields}
-use borrow.Author.Rules.{rules}
 use Rattle.well_formed.proofs.keys.same_fields.Goals as goal
 
 pub returns : goal.returns

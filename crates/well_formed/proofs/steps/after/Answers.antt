@@ -6,7 +6,6 @@ use mathlib.Core.Path.{◌≡◌, ap₂, ◌∙◌}
 use Rattle.well_formed.specs.Pass.{at_entry}
 use borrow.Author.Tests.{ne_eqb}
 use Rattle.well_formed.specs.Pass.{after}
-use borrow.Author.Rules.{rules}
 use Rattle.well_formed.proofs.steps.after.Goals as goal
 
 pub returns-in-1 : goal.returns-in-1

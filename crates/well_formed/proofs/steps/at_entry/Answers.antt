@@ -1,5 +1,4 @@
 -- In front of an entry. Assumes nothing.
-use borrow.Author.Rules.{rules}
 use Rattle.well_formed.proofs.steps.at_entry.Goals as goal
 
 pub returns : goal.returns

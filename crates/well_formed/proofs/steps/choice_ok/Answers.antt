@@ -2,7 +2,6 @@
 use mathlib.Core.Path.{sym, ◌∙◌}
 use borrow.Author.Tests.{eq-eqb, ne_eqb}
 use Rattle.well_formed.specs.Pass.{choice_step}
-use borrow.Author.Rules.{rules}
 use Rattle.well_formed.proofs.steps.choice_ok.Goals as goal
 
 pub returns-then-not-is_idle : goal.returns-then-not-is_idle

@@ -2,7 +2,6 @@
 use mathlib.Core.Path.{sym, ◌∙◌}
 use borrow.Author.Tests.{eq-eqb, ne_eqb}
 use Rattle.well_formed.specs.Pass.{clause_step}
-use borrow.Author.Rules.{rules}
 use Rattle.well_formed.proofs.steps.clause_ok.Goals as goal
 
 pub returns-then-entries-ne0 : goal.returns-then-entries-ne0
@@ -21,8 +20,8 @@ returns-then-not-is_bare c = simp
 pub returns : goal.returns
 unfolding clause_step
 returns c = simp (
-      eq-eqb _ _ c.if-entries-ne0.false,
-      eq-eqb _ _ c.if-sub-ne0.false,
-      sym c.is_bare.ensures ∙ c.if-not-is_bare.false,
-      c.may_rise.ensures,
-    )
+  eq-eqb _ _ c.if-entries-ne0.false,
+  eq-eqb _ _ c.if-sub-ne0.false,
+  sym c.is_bare.ensures ∙ c.if-not-is_bare.false,
+  c.may_rise.ensures,
+)

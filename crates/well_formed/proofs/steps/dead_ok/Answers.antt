@@ -1,7 +1,6 @@
 -- A dead table's record, test by test. Assumes nothing.
 use borrow.Author.Tests.{eq-eqb, ne_eqb}
 use Rattle.well_formed.specs.Pass.{dead_step}
-use borrow.Author.Rules.{rules}
 use Rattle.well_formed.proofs.steps.dead_ok.Goals as goal
 
 pub returns-then-entries-ne0 : goal.returns-then-entries-ne0

@@ -1,7 +1,6 @@
 -- An on-demand record, test by test. Assumes nothing.
 use mathlib.Core.Path.{sym, ◌∙◌}
 use Rattle.well_formed.specs.Pass.{demand_step}
-use borrow.Author.Rules.{rules}
 use Rattle.well_formed.proofs.steps.demand_ok.Goals as goal
 
 pub returns-then-not-is_idle : goal.returns-then-not-is_idle

@@ -1,7 +1,6 @@
 -- An entry, test by test. Assumes nothing.
 use mathlib.Core.Path.{sym, ◌∙◌}
 use Rattle.well_formed.specs.Pass.{entry_step}
-use borrow.Author.Rules.{rules}
 use Rattle.well_formed.proofs.steps.entry_ok.Goals as goal
 
 pub returns-then-not-form_ok : goal.returns-then-not-form_ok

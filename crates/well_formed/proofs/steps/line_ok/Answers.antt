@@ -5,7 +5,6 @@ use borrow.Author.Tests.{eq-eqb, ne_eqb}
 use lib.Dec.{eqb}
 use Rattle.well_formed.specs.Pass.{line_step}
 use Rattle.well_formed.proofs.StepLaws.{line-left}
-use borrow.Author.Rules.{rules}
 use Rattle.well_formed.proofs.steps.line_ok.Goals.{Else-not-is_idle}
 use Rattle.well_formed.proofs.steps.line_ok.Goals as goal
 

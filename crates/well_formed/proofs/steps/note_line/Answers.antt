@@ -1,7 +1,6 @@
 -- A line's first argument is noted. Assumes nothing.
 use borrow.Author.Tests.{eq-eqb, ne_eqb}
 use Rattle.well_formed.specs.Pass.{noted}
-use borrow.Author.Rules.{rules}
 use Rattle.well_formed.proofs.steps.note_line.Goals as goal
 
 pub returns-then-kind-eq1 : goal.returns-then-kind-eq1

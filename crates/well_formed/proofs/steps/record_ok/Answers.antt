@@ -4,7 +4,6 @@ use borrow.Author.Tests.{ne_eqb}
 use Rattle.well_formed.specs.Pass.{step_ok}
 use mathlib.Core.Path.{◌≡◌, ◌∙◌}
 use Rattle.well_formed.proofs.StepLaws.{step_line, step-switch, step-demand, step-dead, step-entry, step-choice, step-clause}
-use borrow.Author.Rules.{rules}
 use Rattle.well_formed.proofs.steps.record_ok.Goals as goal
 
 pub returns-in-1 : goal.returns-in-1

@@ -1,7 +1,6 @@
 -- A switch record, test by test. Assumes nothing.
 use borrow.Author.Tests.{eq-eqb, le-ltb, lt-ltb, ne_eqb}
 use Rattle.well_formed.specs.Pass.{switch_step}
-use borrow.Author.Rules.{rules}
 use Rattle.well_formed.proofs.steps.switch_ok.Goals as goal
 
 pub returns-then-clause-ne0 : goal.returns-then-clause-ne0

@@ -1,7 +1,6 @@
 -- A table's record, test by test. Assumes nothing.
 use borrow.Author.Tests.{eq-eqb, le-leb, lt-leb, ne_eqb}
 use Rattle.well_formed.specs.Pass.{table_step}
-use borrow.Author.Rules.{rules}
 use Rattle.well_formed.proofs.steps.table_ok.Goals as goal
 
 pub returns-then-sub-ne0 : goal.returns-then-sub-ne0
@@ -19,28 +18,28 @@ returns-then-long-ne0 c = simp (eq-eqb _ _ c.if-sub-ne0.false, eq-eqb _ _ c.if-w
 pub returns-then-half-lt1 : goal.returns-then-half-lt1
 unfolding table_step
 returns-then-half-lt1 c = simp (
-      eq-eqb _ _ c.if-sub-ne0.false,
-      eq-eqb _ _ c.if-word-ne0.false,
-      eq-eqb _ _ c.if-long-ne0.false,
-      lt-leb _ _ c.if-half-lt1.true,
-    )
+  eq-eqb _ _ c.if-sub-ne0.false,
+  eq-eqb _ _ c.if-word-ne0.false,
+  eq-eqb _ _ c.if-long-ne0.false,
+  lt-leb _ _ c.if-half-lt1.true,
+)
 
 pub returns-then-arity-half : goal.returns-then-arity-half
 unfolding table_step
 returns-then-arity-half c = simp (
-      eq-eqb _ _ c.if-sub-ne0.false,
-      eq-eqb _ _ c.if-word-ne0.false,
-      eq-eqb _ _ c.if-long-ne0.false,
-      le-leb _ _ c.if-half-lt1.false,
-      lt-leb _ _ c.if-arity-half.true,
-    )
+  eq-eqb _ _ c.if-sub-ne0.false,
+  eq-eqb _ _ c.if-word-ne0.false,
+  eq-eqb _ _ c.if-long-ne0.false,
+  le-leb _ _ c.if-half-lt1.false,
+  lt-leb _ _ c.if-arity-half.true,
+)
 
 pub returns : goal.returns
 unfolding table_step
 returns c = simp (
-      eq-eqb _ _ c.if-sub-ne0.false,
-      eq-eqb _ _ c.if-word-ne0.false,
-      eq-eqb _ _ c.if-long-ne0.false,
-      le-leb _ _ c.if-half-lt1.false,
-      le-leb _ _ c.if-arity-half.false,
-    )
+  eq-eqb _ _ c.if-sub-ne0.false,
+  eq-eqb _ _ c.if-word-ne0.false,
+  eq-eqb _ _ c.if-long-ne0.false,
+  le-leb _ _ c.if-half-lt1.false,
+  le-leb _ _ c.if-arity-half.false,
+)
