@@ -1,2 +1,3 @@
 pub mod ExpansionLaws
 pub mod BuilderLaws
+pub mod CapacityLaws

@@ -25,6 +25,7 @@ pub enum BuildAnswer {
 }
 
 // How many records an index in this buffer may have: the buffer's whole records, at most 65,535.
+#[tactic(auto, using(crate::proofs::CapacityLaws::whole_records))]
 pub fn capacity(index: &[u8]) -> usize
     ensures value { result ≡ capacity_of index.now }
     ensures upper_bound { (result ≤ length (records_of index.now)) × (result ≤ 65535) }

@@ -42,7 +42,7 @@ use Rattle.indexing_scan.specs.Walk.{line, Result}
 use Rattle.indexing_walk.specs.declared.Walking.{Walking}
 use Rattle.indexing_walk.specs.Walking.{index_in, off_at, grown_at, Stands, Kept, Comes, rest_of, turns_left, Went}
 use Rattle.indexing_walk.proofs.WalkLaws.{rest, found, at_left, expands, refuses, not-demand}
-use Rattle.indexing_walk.proofs.StandLaws.{Ready, program, here, choices, orderly, AtDemand, left, left_it, range, placed}
+use Rattle.indexing_walk.proofs.StandLaws.{Ready, program, here, orderly, AtDemand, left, left_it, range, placed}
 
 module _ {code starts : List ℕ} {S : Settings} {b : List ℕ} {w : Walking} {a : ℕ} (due : AtDemand code starts S b w a) where
   abbrev ready : Ready code starts S b w

@@ -20,10 +20,13 @@ rooms : (c : After-new_lines_room) → let a = c.args in
     (c.seed_room-n.result ≡ length seeds) × (c.switch_room-k.result ≡ length switch) × (c.new_lines_room.result ≡ length lines)
     × (1 ≤ length switch) × (2 ≤ length seeds)
 rooms c =
-    let a = c.args in
-    (c.seed_room-n.ensures.by_index a.offs.now a.tags.now, c.switch_room-k.ensures.by_index a.bits.now a.offs.now a.c 1,
-    c.new_lines_room.ensures.by_index a.offs.now a.tags.now 1, switch-some a.leaders.now a.heads.now a.bits.now a.offs.now a.settings.dynamic a.c 1,
-    seed-some a.zeros.now a.opens.now a.offs.now a.tags.now a.settings a.c)
+    let a = c.args in (
+      c.seed_room-n.ensures.by_index a.offs.now a.tags.now,
+      c.switch_room-k.ensures.by_index a.bits.now a.offs.now a.c 1,
+      c.new_lines_room.ensures.by_index a.offs.now a.tags.now 1,
+      switch-some a.leaders.now a.heads.now a.bits.now a.offs.now a.settings.dynamic a.c 1,
+      seed-some a.zeros.now a.opens.now a.offs.now a.tags.now a.settings a.c,
+    )
 
 pub overflow_sub-k : goal.overflow_sub-k
 overflow_sub-k c = let a = c.args in omega (arith, c.switch_room-k.ensures.by_index a.bits.now a.offs.now a.c 1, switch-some a.leaders.now a.heads.now a.bits.now a.offs.now a.settings.dynamic a.c 1)

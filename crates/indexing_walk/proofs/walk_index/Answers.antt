@@ -13,7 +13,7 @@ use Rattle.indexing_walk.proofs.walk_index.Goals as goal
 -- the buffer has a well-formed index in front, of the lines counted
 begins : (c : After-count_lines-lines)
     → let a = c.args in Begins a.code.now a.starts.now a.settings a.index.now a.count c.count_lines-lines.result
-begins c =     let index = c.requires.count_bound in
+begins c = let index = c.requires.count_bound in
     record { fits = index.0; well = index.1; many = c.count_lines-lines.ensures }
 
 pub count_lines-lines-requires : goal.count_lines-lines-requires

@@ -6,6 +6,6 @@ use Rattle.indexing_builder.proofs.expansion.count_new_lines.Goals as goal
 pub returns : goal.returns
 unfolding lines_made
 returns c = record {
-      value = omega arith;
-      upper_bound = omega arith;
-    }
+  value = omega arith;
+  upper_bound = omega arith;
+}

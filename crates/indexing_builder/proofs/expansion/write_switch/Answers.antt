@@ -14,6 +14,7 @@ use Rattle.indexing_builder.proofs.expansion.write_switch.Goals as goal
 module _ (s : Start) where
   abbrev switch : ℕ → List Rec
   switch d = switch_recs s.args.leaders.now s.args.heads.now s.args.bits.now s.args.offs.now s.args.settings.dynamic s.args.t.arg d
+
   grown-first : 1 + (s.args.t.lines - s.args.t.line - 1) ≡ s.args.t.lines - s.args.t.line
   grown-first = omega (arith, s.requires.placed.own)
 

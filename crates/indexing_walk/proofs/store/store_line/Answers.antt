@@ -16,7 +16,7 @@ grown : (c : After-slice_known-6-1)
 grown c =
     let a = c.args in
     let due : AtDemand a.code.now a.starts.now a.settings a.index.now a.w a.a =
-        record { ready = record { checked = c.requires.starts_value; stands = c.requires.stands }; kind = c.requires.zero_rec_value.0; half = c.requires.zero_rec_value.1 } in
+    record { ready = record { checked = c.requires.starts_value; stands = c.requires.stands }; kind = c.requires.zero_rec_value.0; half = c.requires.zero_rec_value.1 } in
     let d = c.indices_of_arg-x in
     grows due c.capacity.result (λ i. omega (arith, c.shared_slice_known-1.given i)) (λ i. omega (arith, c.slice_known-1.given i))
     c.requires.list_len.2 d.new.index d.result d.ensures

@@ -18,7 +18,7 @@ few : (c : After-count_offsets-m) → c.count_offsets-m.result ≤ 1024
 few c =
     let a = c.args in
     let due : AtDemand a.code.now a.starts.now a.settings a.index.now a.w a.a =
-        record { ready = record { checked = c.requires.starts_value; stands = c.requires.stands }; kind = c.requires.zero_rec_value.0; half = c.requires.zero_rec_value.1 } in
+    record { ready = record { checked = c.requires.starts_value; stands = c.requires.stands }; kind = c.requires.zero_rec_value.0; half = c.requires.zero_rec_value.1 } in
     let f = c.first_offset-q in
     (read_count due f.result c.count_offsets-m.result f.ensures.0 c.count_offsets-m.ensures.0).2
 

@@ -19,7 +19,7 @@ due : (c : Else-kind-eq2)
     → let a = c.args in AtDemand a.code.now a.starts.now a.settings a.index.now a.w a.a
 due c =
     let at = c.requires.kind_value in
-    record { ready = record { checked = c.requires.starts_value; stands = c.requires.stands }; kind = sym at.0 ∙ third-kind c.args.kind c.requires.kind_value_2.0 c.if-kind-eq4.false c.if-kind-eq2.false; half = at.1 }
+    record { ready = record { checked = c.requires.starts_value; stands = c.requires.stands }; kind = sym at.0 ∙ third-kind c.args.kind c.requires.kind_value_2.0 (omega arith) c.if-kind-eq2.false; half = at.1 }
 
 pub pass_table-requires : goal.pass_table-requires
 pass_table-requires c = to-pass (table (goal.at.pass_table-requires c).Start)
@@ -27,7 +27,7 @@ pass_table-requires c = to-pass (table (goal.at.pass_table-requires c).Start)
 pub returns-then-kind-eq4 : goal.returns-then-kind-eq4
 returns-then-kind-eq4 c =
     let at = c.requires.kind_value_2 in
-    turn-dead (table (goal.at.returns-then-kind-eq4 c).Start) c.args.call.now c.args.q at.1 at.2 (sym c.requires.kind_value.0 ∙ c.if-kind-eq4.true) c.pass_table.result c.pass_table.ensures
+    turn-dead (table (goal.at.returns-then-kind-eq4 c).Start) c.args.call.now c.args.q at.1 at.2 (omega arith) c.pass_table.result c.pass_table.ensures
 
 pub look_switch-x-requires : goal.look_switch-x-requires
 look_switch-x-requires c = let t = table (goal.at.look_switch-x-requires c).Start in

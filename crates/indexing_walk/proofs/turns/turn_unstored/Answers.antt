@@ -21,7 +21,7 @@ use Rattle.indexing_walk.proofs.turns.turn_unstored.Goals as goal
 
 -- the walk is at an on-demand table, in checked code
 due : (s : Start) → AtDemand s.args.code.now s.args.starts.now s.args.settings s.args.index.now s.args.w s.args.a
-due s =     let at = s.requires.zero_rec_value in
+due s = let at = s.requires.zero_rec_value in
     record { ready = record { checked = s.requires.starts_value; stands = s.requires.stands }; kind = at.0; half = at.1 }
 
 -- the offsets of its line are read
@@ -30,7 +30,7 @@ read : (c : After-read_line-m)
 read c =
     let a = c.args in
     let due : AtDemand a.code.now a.starts.now a.settings a.index.now a.w a.a =
-        record { ready = record { checked = c.requires.starts_value; stands = c.requires.stands }; kind = c.requires.zero_rec_value.0; half = c.requires.zero_rec_value.1 } in
+    record { ready = record { checked = c.requires.starts_value; stands = c.requires.stands }; kind = c.requires.zero_rec_value.0; half = c.requires.zero_rec_value.1 } in
     let r = c.read_line-m in
     line_read due.ready r.result r.new.list c.args.list.now r.ensures.0 r.ensures.1
 
@@ -41,7 +41,7 @@ narrowed : (c : After-demand_at-x)
 narrowed c =
     let a = c.args in
     let due : AtDemand a.code.now a.starts.now a.settings a.index.now a.w a.a =
-        record { ready = record { checked = c.requires.starts_value; stands = c.requires.stands }; kind = c.requires.zero_rec_value.0; half = c.requires.zero_rec_value.1 } in
+    record { ready = record { checked = c.requires.starts_value; stands = c.requires.stands }; kind = c.requires.zero_rec_value.0; half = c.requires.zero_rec_value.1 } in
     let r = c.read_line-m in
     let d = c.demand_at-x in
     narrows due c.args.call.now c.args.q c.requires.q_value.0 c.requires.q_value.1 c.requires.list_len.1
