@@ -35,6 +35,7 @@ pub enum First {
 }
 
 // What is read of an input: up to 65,536 records. Longer input counts as 3: its first record and one byte of code are read.
+#[tactic(auto, unfolding(crate::specs::Plan::heard_of))]
 fn heard(input: &[u8]) -> &[u8]
     ensures { (result.now ≡ heard_of input.now) × (length result.now ≤ 1048576) }
 {
