@@ -1,10 +1,8 @@
 -- k starts were met, and those left make up the rest. Assumes nothing.
-use mathlib.Core.Path.{◌≡◌, sym, ap, ◌∙◌}
-use Prim.Native.Nat.{◌+◌, ◌-◌, ◌≤◌}
+use mathlib.Core.Path.{sym, ap, ◌∙◌}
+use Prim.Native.Nat.{◌+◌}
 use native.Mathlib.Omega.{arith}
-use lib.ListN.{length, drop}
 use Rattle.records.specs.Records.{records_of}
-use Rattle.inputs.specs.Input.{starts_in}
 use Rattle.inputs.proofs.StartLaws.{starts_more, starts-stop, starts-end}
 use Rattle.records.specs.declared.Rec.{Rec}
 use Rattle.records.proofs.Laws.{length-records_of}

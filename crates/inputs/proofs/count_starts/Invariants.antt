@@ -1,13 +1,8 @@
-use mathlib.Core.Path.{◌≡◌, sym, ap, ◌∙◌}
+use mathlib.Core.Path.{◌≡◌}
 use Prim.Native.Nat.{◌+◌, ◌-◌, ◌≤◌}
-use native.Mathlib.Omega.{arith}
 use lib.ListN.{length, drop}
 use Rattle.records.specs.Records.{records_of}
 use Rattle.inputs.specs.Input.{starts_in}
-use Rattle.inputs.proofs.StartLaws.{starts_more, starts-stop, starts-end}
-use Rattle.records.specs.declared.Rec.{Rec}
-use Rattle.records.proofs.Laws.{length-records_of}
-use borrow.Author.Rules.{rules}
 use Rattle.inputs.proofs.count_starts.Given as goal
 
 abbrev pub invariant-loop-k : goal.invariant-loop-k

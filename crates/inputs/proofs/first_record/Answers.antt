@@ -6,7 +6,6 @@ use lib.ListN.{take, get_or}
 use lib.Seq.{take-length}
 use Rattle.records.specs.declared.Rec.{Rec}
 use Rattle.records.specs.Records.{records_of, zero_rec}
-use borrow.Author.Rules.{rules}
 use Rattle.inputs.proofs.first_record.Goals as goal
 
 pub returns : goal.returns

@@ -1,12 +1,9 @@
 -- The first i starts stand. Assumes nothing.
-use mathlib.Core.Path.{◌≡◌, sym, ap, ◌∙◌}
-use Prim.Native.Nat.{◌-◌}
+use mathlib.Core.Path.{sym, ap, ◌∙◌}
 use native.Mathlib.Omega.{arith}
-use lib.ListN.{length, drop}
 use Rattle.records.specs.Records.{records_of}
-use Rattle.records.proofs.Filled.{Filled, fill_start, fill_more}
+use Rattle.records.proofs.Filled.{fill_start, fill_more}
 use Rattle.index_writer.proofs.ColumnLaws.{fill-whole}
-use Rattle.inputs.specs.Input.{starts_in}
 use Rattle.inputs.proofs.StartLaws.{word-behind, behind-within}
 use Rattle.records.specs.declared.Rec.{Rec}
 use borrow.Author.Rules.{rules}

@@ -1,7 +1,6 @@
 -- The settings record, field by field. Assumes nothing.
 use mathlib.Core.Path.{refl}
 use borrow.Author.Tests.{eq-eqb, ne_eqb}
-use borrow.Author.Rules.{rules}
 use Rattle.inputs.proofs.settings_in.Goals as goal
 
 pub returns-then-kind : goal.returns-then-kind

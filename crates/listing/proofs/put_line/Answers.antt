@@ -2,7 +2,6 @@
 use native.Mathlib.Omega.{arith}
 use lib.ListN.{drop}
 use Rattle.listing.proofs.TextLaws.{line-fields}
-use borrow.Author.Rules.{rules}
 use Rattle.listing.proofs.put_line.Goals as goal
 
 pub put_field-requires : goal.put_field-requires
@@ -13,8 +12,7 @@ put_field-requires c = let f1 = c.put_field-long_at in
     let t1 = c.text-1.given in
     let t2 = c.text-2-1.given in
     let t3 = c.text-3-1.given in
-    let t4 = c.text-4-1.given in
-     (
+    let t4 = c.text-4-1.given in (
       omega (arith, c, f1.ensures.end_bound.0, f2.ensures.end_bound.0, f3.ensures.end_bound.0, f4.ensures.end_bound.0),
       omega (arith, c, t1, t2, t3, t4, f1.ensures.end_bound.1, f2.ensures.end_bound.1, f3.ensures.end_bound.1, f4.ensures.end_bound.1),
     )

@@ -1,6 +1,6 @@
 -- Each line takes at most 105 bytes before the last one put. Assumes nothing.
 use mathlib.Core.Path.{◌≡◌, refl, sym, ap, ◌∙◌}
-use Prim.Native.Nat.{ℕ, ◌+◌, ◌-◌, ◌*◌, ◌≤◌}
+use Prim.Native.Nat.{ℕ, ◌+◌, ◌-◌, ◌≤◌}
 use native.Mathlib.Omega.{arith}
 use mathlib.Core.List.{[]}
 use lib.ListN.{length, drop, drop_of_length-le}
@@ -8,7 +8,6 @@ use lib.Seq.{slice}
 use Rattle.records.specs.Records.{records_of}
 use Rattle.listing.specs.Text.{lines_of}
 use Rattle.listing.proofs.TextLaws.{lines_more, lines_none}
-use borrow.Author.Rules.{rules}
 use Rattle.listing.proofs.put_lines.Goals as goal
 
 pub loop-i-init : goal.loop-i-init

@@ -1,11 +1,9 @@
 -- The place written stays within the twenty bytes before the end. Assumes nothing.
 use native.Mathlib.Omega.{arith}
-use mathlib.Core.Path.{◌≡◌, refl, sym, ◌∙◌}
-use Prim.Native.Nat.{◌+◌, ◌-◌, ◌%◌, ◌≤◌}
-use lib.ListN.{length, drop, length-set}
-use Rattle.listing.specs.Text.{digits, decimal}
+use mathlib.Core.Path.{refl, sym, ◌∙◌}
+use Prim.Native.Nat.{◌+◌, ◌-◌, ◌%◌}
+use lib.ListN.{drop, length-set}
 use Rattle.listing.proofs.TextLaws.{turn_last, turn_more, digits-start, digits-end}
-use borrow.Author.Rules.{rules}
 use Rattle.listing.proofs.put_number.Goals as goal
 
 pub loop-i-init : goal.loop-i-init

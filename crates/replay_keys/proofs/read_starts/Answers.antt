@@ -1,10 +1,7 @@
 -- The place read stays below the number of records. Assumes nothing.
 use Rattle.records.proofs.Laws.{length-records_of}
-use Prim.Native.Nat.{◌-◌, ◌≤◌}
-use mathlib.Core.Path.{◌≡◌}
-use lib.ListN.{length, length-set}
+use lib.ListN.{length-set}
 use native.Mathlib.Omega.{arith}
-use borrow.Author.Rules.{rules}
 use Rattle.replay_keys.proofs.read_starts.Goals as goal
 
 pub overflow_add-at : goal.overflow_add-at

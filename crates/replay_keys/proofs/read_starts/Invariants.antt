@@ -1,9 +1,6 @@
-use Rattle.records.proofs.Laws.{length-records_of}
 use Prim.Native.Nat.{◌-◌, ◌≤◌}
 use mathlib.Core.Path.{◌≡◌}
-use lib.ListN.{length, length-set}
-use native.Mathlib.Omega.{arith}
-use borrow.Author.Rules.{rules}
+use lib.ListN.{length}
 use Rattle.replay_keys.proofs.read_starts.Given as goal
 
 abbrev pub invariant-loop-i : goal.invariant-loop-i

@@ -1,5 +1,4 @@
 -- Clauses are shown only where the check of the code passed. Assumes nothing.
-use borrow.Author.Rules.{rules}
 use mathlib.Core.Path.{sym, ◌∙◌}
 use Rattle.replay_keys.proofs.show.Goals as goal
 

@@ -14,5 +14,5 @@ show_clause-requires c =
     record {
       starts_value = search rules;
       offset_value =
-        (offset_at class_of c.args.arity c.args.code.now c.args.starts.now c.loop-i.i (search rules) (search rules)).0;
+          (offset_at class_of c.args.arity c.args.code.now c.args.starts.now c.loop-i.i (search rules) (search rules)).0;
     }

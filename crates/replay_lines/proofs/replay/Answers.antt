@@ -1,9 +1,6 @@
 -- At most a million inputs are replayed, each of them a front part of the buffer. Assumes nothing.
-use mathlib.Core.Path.{◌≡◌}
-use Prim.Native.Nat.{◌-◌, ◌≤◌}
 use native.Mathlib.Omega.{arith}
-use lib.ListN.{length, length-take}
-use borrow.Author.Rules.{rules}
+use lib.ListN.{length-take}
 use Rattle.replay_lines.proofs.replay.Goals as goal
 
 pub slice_bounds-print_listing-end : goal.slice_bounds-print_listing-end

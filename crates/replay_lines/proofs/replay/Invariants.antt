@@ -1,8 +1,6 @@
 use mathlib.Core.Path.{◌≡◌}
 use Prim.Native.Nat.{◌-◌, ◌≤◌}
-use native.Mathlib.Omega.{arith}
-use lib.ListN.{length, length-take}
-use borrow.Author.Rules.{rules}
+use lib.ListN.{length}
 use Rattle.replay_lines.proofs.replay.Given as goal
 
 abbrev pub invariant-loop-n : goal.invariant-loop-n

@@ -2,7 +2,6 @@
 use mathlib.Core.Path.{refl, ◌∙◌}
 use Rattle.walk_inputs.proofs.PlanLaws.{plan-starts}
 use Rattle.walk_inputs.proofs.RunLaws.{build-as}
-use borrow.Author.Rules.{rules}
 use Rattle.walk_inputs.proofs.build_index.Goals as goal
 
 pub read_starts-requires : goal.read_starts-requires

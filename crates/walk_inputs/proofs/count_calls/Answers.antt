@@ -1,7 +1,6 @@
 -- The call records, cut every step of them. Assumes nothing.
 use native.Mathlib.Omega.{arith}
 use Rattle.walk_inputs.proofs.RunLaws.{calls-as}
-use borrow.Author.Rules.{rules}
 use Rattle.walk_inputs.proofs.count_calls.Goals as goal
 
 pub overflow_sub-result : goal.overflow_sub-result

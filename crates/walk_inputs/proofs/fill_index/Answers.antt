@@ -1,10 +1,9 @@
 -- The first i bytes are those of the run, and zeros behind it. Assumes nothing.
-use mathlib.Core.Path.{◌≡◌, refl, sym, ◌∙◌}
+use mathlib.Core.Path.{refl, sym, ◌∙◌}
 use Prim.Native.Nat.{ℕ, ◌-◌}
 use native.Mathlib.Omega.{arith}
-use mathlib.Core.List.{◌++◌}
-use lib.ListN.{length, replicate}
-use Rattle.records.proofs.Filled.{Filled, fill_start, fill_more}
+use lib.ListN.{length}
+use Rattle.records.proofs.Filled.{fill_start, fill_more}
 use Rattle.index_writer.proofs.ColumnLaws.{fill-whole}
 use Rattle.walk_inputs.proofs.PartLaws.{pad-at, pad-length}
 use borrow.Author.Rules.{rules}

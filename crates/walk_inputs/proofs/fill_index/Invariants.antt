@@ -1,12 +1,8 @@
-use mathlib.Core.Path.{◌≡◌, refl, sym, ◌∙◌}
+use mathlib.Core.Path.{◌≡◌}
 use Prim.Native.Nat.{ℕ, ◌-◌}
-use native.Mathlib.Omega.{arith}
 use mathlib.Core.List.{◌++◌}
 use lib.ListN.{length, replicate}
-use Rattle.records.proofs.Filled.{Filled, fill_start, fill_more}
-use Rattle.index_writer.proofs.ColumnLaws.{fill-whole}
-use Rattle.walk_inputs.proofs.PartLaws.{pad-at, pad-length}
-use borrow.Author.Rules.{rules}
+use Rattle.records.proofs.Filled.{Filled}
 use Rattle.walk_inputs.proofs.fill_index.Given as goal
 
 abbrev pub invariant-loop-i : goal.invariant-loop-i

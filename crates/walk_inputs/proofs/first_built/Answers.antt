@@ -1,6 +1,5 @@
 -- The builder's answer, case by case. Assumes nothing.
 use mathlib.Core.Path.{refl}
-use borrow.Author.Rules.{rules}
 use Rattle.walk_inputs.proofs.first_built.Goals as goal
 
 pub returns-in-Done : goal.returns-in-Done

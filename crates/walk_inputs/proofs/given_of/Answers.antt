@@ -1,5 +1,4 @@
 -- Without an index that is handed in there is no record 243. Assumes nothing.
-use borrow.Author.Rules.{rules}
 use Rattle.walk_inputs.proofs.given_of.Goals as goal
 
 pub returns-then-handed : goal.returns-then-handed

@@ -5,7 +5,6 @@ use lib.ListN.{replicate}
 use Rattle.walk_inputs.specs.declared.First.{First}
 use Rattle.walk_inputs.specs.Run.{opened_of}
 use Rattle.walk_inputs.proofs.RunLaws.{open-given, open-built}
-use borrow.Author.Rules.{rules}
 use Rattle.walk_inputs.proofs.open_cut.Goals as goal
 
 pub returns-then-plan : goal.returns-then-plan

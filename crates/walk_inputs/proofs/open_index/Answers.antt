@@ -4,7 +4,6 @@ use Prim.Native.Nat.{ℕ}
 use mathlib.Core.List.{List}
 use Rattle.walk_inputs.specs.Plan.{plan_of}
 use Rattle.walk_inputs.specs.Run.{open_of, opened_in, open_call}
-use borrow.Author.Rules.{rules}
 use Rattle.walk_inputs.proofs.open_index.Goals as goal
 
 pub returns : goal.returns

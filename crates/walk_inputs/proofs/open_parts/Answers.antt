@@ -19,9 +19,9 @@ slice_bounds-open_cut-end-5 c = simp length-take (omega arith)
 
 pub open_cut-requires : goal.open_cut-requires
 open_cut-requires c = record {
-      plan_value = (c.plan_in-plan.ensures.value, search rules, simp length-take (omega arith));
-      out_len = simp length-take (omega arith);
-    }
+  plan_value = (c.plan_in-plan.ensures.value, search rules, simp length-take (omega arith));
+  out_len = simp length-take (omega arith);
+}
 
 pub returns : goal.returns
 returns c = let a = c.args in

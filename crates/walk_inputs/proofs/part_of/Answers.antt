@@ -1,6 +1,5 @@
 -- The part between two places of the input. Assumes nothing.
 use Rattle.walk_inputs.proofs.PartLaws.{part-as}
-use borrow.Author.Rules.{rules}
 use Rattle.walk_inputs.proofs.part_of.Goals as goal
 
 pub returns : goal.returns

@@ -1,7 +1,6 @@
 -- The plan of what is read. Assumes nothing.
 use mathlib.Core.Path.{ap, ◌∙◌}
 use Rattle.walk_inputs.specs.Plan.{plan_of}
-use borrow.Author.Rules.{rules}
 use Rattle.walk_inputs.proofs.plan_of.Goals as goal
 
 pub returns : goal.returns

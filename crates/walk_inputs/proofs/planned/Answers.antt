@@ -1,7 +1,6 @@
 -- The fields of a plan. Assumes nothing.
 use native.Mathlib.Omega.{arith}
 use Rattle.walk_inputs.proofs.PlanLaws.{place-most, planned-as}
-use borrow.Author.Rules.{rules}
 use Rattle.walk_inputs.proofs.planned.Goals as goal
 
 pub overflow_add-place-2 : goal.overflow_add-place-2

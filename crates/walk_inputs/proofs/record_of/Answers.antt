@@ -2,7 +2,6 @@
 use mathlib.Core.Path.{◌∙◌}
 use Rattle.records.specs.Records.{records_of}
 use Rattle.walk_inputs.proofs.PlanLaws.{record-found, record-missing}
-use borrow.Author.Rules.{rules}
 use Rattle.walk_inputs.proofs.record_of.Goals as goal
 
 pub returns-then-found-kind : goal.returns-then-found-kind

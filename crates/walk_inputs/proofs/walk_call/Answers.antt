@@ -3,7 +3,6 @@ use mathlib.Core.Path.{ap, ◌∙◌}
 use Prim.Native.Nat.{ℕ}
 use mathlib.Core.List.{List}
 use Rattle.walk_inputs.specs.Run.{walk_in}
-use borrow.Author.Rules.{rules}
 use Rattle.walk_inputs.proofs.walk_call.Goals as goal
 
 pub returns : goal.returns

@@ -1,9 +1,8 @@
 -- Each call gets what the one before it left. Assumes nothing.
 use mathlib.Core.Path.{◌≡◌}
-use Prim.Native.Nat.{◌-◌, ◌≤◌}
 use native.Mathlib.Omega.{arith}
 use Rattle.walk_inputs.specs.Plan.{heard_of}
-use Rattle.walk_inputs.specs.Run.{calls_of, held, Handed, at_first, onward}
+use Rattle.walk_inputs.specs.Run.{calls_of, at_first, onward}
 use borrow.Author.Rules.{rules}
 use Rattle.walk_listing.proofs.print_calls.Goals as goal
 

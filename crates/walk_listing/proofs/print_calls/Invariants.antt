@@ -1,9 +1,7 @@
 use mathlib.Core.Path.{◌≡◌}
 use Prim.Native.Nat.{◌-◌, ◌≤◌}
-use native.Mathlib.Omega.{arith}
 use Rattle.walk_inputs.specs.Plan.{heard_of}
-use Rattle.walk_inputs.specs.Run.{calls_of, held, Handed, at_first, onward}
-use borrow.Author.Rules.{rules}
+use Rattle.walk_inputs.specs.Run.{calls_of, held, Handed}
 use Rattle.walk_listing.proofs.print_calls.Given as goal
 
 abbrev pub invariant-loop-i : goal.invariant-loop-i

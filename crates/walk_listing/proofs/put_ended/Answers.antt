@@ -6,7 +6,6 @@ use mathlib.Core.List.{[]}
 use lib.ListN.{length, drop_of_length-le}
 use Rattle.listing.specs.Text.{decimal}
 use Rattle.walk_listing.proofs.TextLaws.{ended-parts}
-use borrow.Author.Rules.{rules}
 use Rattle.walk_listing.proofs.put_ended.Goals as goal
 
 pub returns : goal.returns

@@ -4,7 +4,6 @@ use Prim.Native.Nat.{ℕ}
 use native.Mathlib.Omega.{arith}
 use mathlib.Core.List.{List, ◌∷◌}
 use Rattle.listing.proofs.TextLaws.{put-before}
-use borrow.Author.Rules.{rules}
 use Rattle.walk_listing.proofs.put_offset.Goals as goal
 
 pub returns : goal.returns

@@ -1,13 +1,12 @@
 -- Each offset takes at most 21 bytes before the last one put. Assumes nothing.
 use mathlib.Core.Path.{◌≡◌, refl, sym, ap, ◌∙◌}
-use Prim.Native.Nat.{ℕ, ◌+◌, ◌-◌, ◌*◌, ◌≤◌}
+use Prim.Native.Nat.{ℕ, ◌+◌, ◌-◌, ◌≤◌}
 use native.Mathlib.Omega.{arith}
 use mathlib.Core.List.{[]}
 use lib.ListN.{length, drop, drop_of_length-le}
 use lib.Seq.{slice}
 use Rattle.walk_listing.specs.Text.{offsets_text}
 use Rattle.walk_listing.proofs.TextLaws.{offsets-more, offsets-none}
-use borrow.Author.Rules.{rules}
 use Rattle.walk_listing.proofs.put_offsets.Goals as goal
 
 pub loop-i-init : goal.loop-i-init

@@ -1,12 +1,9 @@
-use mathlib.Core.Path.{◌≡◌, refl, sym, ap, ◌∙◌}
-use Prim.Native.Nat.{ℕ, ◌+◌, ◌-◌, ◌*◌, ◌≤◌}
-use native.Mathlib.Omega.{arith}
+use mathlib.Core.Path.{◌≡◌}
+use Prim.Native.Nat.{◌+◌, ◌*◌, ◌≤◌}
 use mathlib.Core.List.{[]}
-use lib.ListN.{length, drop, drop_of_length-le}
+use lib.ListN.{length, drop}
 use lib.Seq.{slice}
 use Rattle.walk_listing.specs.Text.{offsets_text}
-use Rattle.walk_listing.proofs.TextLaws.{offsets-more, offsets-none}
-use borrow.Author.Rules.{rules}
 use Rattle.walk_listing.proofs.put_offsets.Given as goal
 
 abbrev pub invariant-loop-i : goal.invariant-loop-i

@@ -1,9 +1,7 @@
 -- What is put is the end of the word, before what stood there. Assumes nothing.
 use mathlib.Core.Path.{◌≡◌, refl}
-use Prim.Native.Nat.{◌+◌, ◌≤◌}
 use native.Mathlib.Omega.{arith}
-use mathlib.Core.List.{◌++◌}
-use lib.ListN.{length, drop}
+use lib.ListN.{drop}
 use Rattle.walk_listing.proofs.TextLaws.{word_none, word_more}
 use borrow.Author.Rules.{rules}
 use Rattle.walk_listing.proofs.put_word.Goals as goal

@@ -1,10 +1,7 @@
-use mathlib.Core.Path.{◌≡◌, refl}
+use mathlib.Core.Path.{◌≡◌}
 use Prim.Native.Nat.{◌+◌, ◌≤◌}
-use native.Mathlib.Omega.{arith}
 use mathlib.Core.List.{◌++◌}
 use lib.ListN.{length, drop}
-use Rattle.walk_listing.proofs.TextLaws.{word_none, word_more}
-use borrow.Author.Rules.{rules}
 use Rattle.walk_listing.proofs.put_word.Given as goal
 
 abbrev pub invariant-loop-i : goal.invariant-loop-i
