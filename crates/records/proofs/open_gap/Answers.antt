@@ -31,7 +31,7 @@ returns c =
     let q : ℕ = a.p + 1 in
     let h : 16 * q ≤ length b = omega (arith, length-records_of b) in
     let m = c.move_up in
-    wrote b _ _ (same_len_mid (16 * q) (length b - 16 * q) b m.new.tail m.auto.tail)
+    wrote b _ _ (same_len_mid _ _ b m.new.tail m.auto.tail)
     (tail-out b m.new.tail q h
     ∙ ap (λ (x : List Rec). take q (records_of b) ++ x) (m.ensures.records ∙ ap (λ (x : List Rec). moved x (a.n - q) a.k 0) (tail-in b q h))
     ∙ moved-part (records_of b) a.n a.k c.requires.1 q (omega arith))

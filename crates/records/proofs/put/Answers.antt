@@ -25,7 +25,7 @@ returns c =
     let k : ℕ = 16 * at + 16 - 16 * at in
     let q : k ≡ 16 = omega arith in
     let e = c.store.ensures in
-    wrote b _ _ (same_len_mid (16 * at) k b c.store.new.s c.store.auto.s)
+    wrote b _ _ (same_len_mid _ _ b c.store.new.s c.store.auto.s)
     (ap (λ (y : List ℕ). records_of (put_mid (16 * at) k b y)) e
     ∙ put-records_of b at k c.args.r c.requires q (omega arith) (omega arith) (omega arith))
     (odd-put b c.store.new.s at k c.requires q (ap length e ∙ length-encode_rec c.args.r))
