@@ -1,5 +1,5 @@
 // A view of one clause: the code slice and the place where the clause starts, in place of scryer-prolog's IndexedClauseView.
-// The functions over the view are thin and proved by hand; they take it apart and leave the work to `key_from`, on a slice and
+// The functions over the view are thin; they take it apart and leave the work to `key_from`, on a slice and
 // a number. Every other caller uses `key_at`, whose parameters are plain.
 ghost use Rattle.std.specs.Prelude.{◌≡◌, drop};
 ghost use Rattle.records.specs.Records.{records_of};
