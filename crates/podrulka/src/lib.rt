@@ -42,7 +42,7 @@ fn settings_by(arity: u32, mask: u32, flags: u32) -> Settings
     }
 }
 
-// Writes values to the first places of result, as many as it has.
+// Writes values to the first places of res, as many as it has.
 fn lay(values: &[u64], res: &mut [u64])
     ensures { res.new ≡ laid values.now res.old }
 {
@@ -148,7 +148,7 @@ fn lay_witnessed(a: Witnessed, res: &mut [u64]) -> u32
     }
 }
 
-// The builder. Returns 0 or the refusal's number; result gets number, record count, variable offset.
+// The builder. Returns 0 or the refusal's number; res gets number, record count, variable offset.
 #[unsafe(no_mangle)]
 pub extern "C" fn podrulka_build(
     code: &[u8],
@@ -169,7 +169,7 @@ pub extern "C" fn podrulka_build(
     lay_built(a, res)
 }
 
-// The size of the index that the builder would write, whatever the room. Returns 0 or the refusal's number; result gets number, record count.
+// The size of the index that the builder would write, whatever the room. Returns 0 or the refusal's number; res gets number, record count.
 #[unsafe(no_mangle)]
 pub extern "C" fn podrulka_size(
     code: &[u8],
@@ -188,7 +188,7 @@ pub extern "C" fn podrulka_size(
     lay_sized(a, res)
 }
 
-// What refuses code, starts, arity and c, c 0 for none; mask and flags refuse nothing. Returns 0; result gets the number, and the clause and
+// What refuses code, starts, arity and c, c 0 for none; mask and flags refuse nothing. Returns 0; res gets the number, and the clause and
 // the record first at fault.
 #[unsafe(no_mangle)]
 pub extern "C" fn podrulka_locate(
@@ -209,7 +209,7 @@ pub extern "C" fn podrulka_locate(
     0
 }
 
-// The walk of a call through an index of count records. Returns 0 or the refusal's number; result gets number, case, line, count of offsets
+// The walk of a call through an index of count records. Returns 0 or the refusal's number; res gets number, case, line, count of offsets
 // in out, tables looked at, mark, new record count.
 #[unsafe(no_mangle)]
 pub extern "C" fn podrulka_walk(
@@ -234,7 +234,7 @@ pub extern "C" fn podrulka_walk(
     lay_walked(a, res)
 }
 
-// The witness. Returns 0 or the refusal's number; result gets number, offset of some clause that agrees with the call, 0 if there is none.
+// The witness. Returns 0 or the refusal's number; res gets number, offset of some clause that agrees with the call, 0 if there is none.
 #[unsafe(no_mangle)]
 pub extern "C" fn podrulka_witness(
     code: &[u8],
