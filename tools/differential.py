@@ -9,7 +9,7 @@ import os, random, subprocess, sys
 from cases import build_oracle, lines_input, oracle_listing, random_case, rec
 from replay_lines import framed, number, parts
 
-PROGRAM = os.path.join(os.path.dirname(os.path.abspath(__file__)), '..', 'target', 'bin', 'replay_lines')
+PROGRAM = os.path.join(os.path.dirname(os.path.abspath(__file__)), '..', 'build', 'bin', 'replay_lines')
 
 
 def accepted(rnd):

@@ -16,7 +16,7 @@ from replay_walks import count, expected, table
 from walk_lists import L, U, a, full
 from walks_model import LONGEST, printed
 
-BIN = os.path.join(os.path.dirname(os.path.abspath(__file__)), '..', 'target', 'bin')
+BIN = os.path.join(os.path.dirname(os.path.abspath(__file__)), '..', 'build', 'bin')
 BATCH = 200
 
 
