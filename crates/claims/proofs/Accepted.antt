@@ -1,28 +1,25 @@
 -- What an accepted build says: the code, starts and settings are as the theorems about walks want them.
 -- Assumes nothing.
 use mathlib.Core.Path.{◌≡◌, refl}
-use mathlib.Core.Bool.{Bool, true, false, cond, not, ◌&&◌, ◌||◌}
+use mathlib.Core.Bool.{Bool, true, false, cond}
 use mathlib.Core.List.{List, [], ◌∷◌}
-use Prim.Native.Nat.{ℕ, suc, ◌/◌, ◌%◌, ◌≤◌, ◌<◌}
+use Prim.Native.Nat.{ℕ, suc, ◌≤◌, ◌<◌}
 use native.Mathlib.Omega.{arith}
-use lib.Dec.{eqb, leb, ltb}
+use lib.Dec.{ltb}
 use lib.ListN.{length, get_or, length-map}
 use borrow.Author.Tests.{ltb-false}
-use Rattle.records.specs.declared.Rec.{Rec}
 use Rattle.records.specs.Records.{records_of}
 use Rattle.records.proofs.Whole.{Bytes}
 use Rattle.indexing_iter.specs.declared.Settings.{Settings}
-use Rattle.indexing_iter.specs.declared.InstructionArg.{InstructionArg}
-use Rattle.indexing_iter.specs.declared.InstructionArg.TheVariants.{ArgedHead, ArglessHead, NonHead, Prologue}
-use Rattle.indexing_iter.specs.declared.Checked.{Checked}
-use Rattle.indexing_iter.specs.declared.Checked.TheVariants.{Passed, Refused}
-use Rattle.indexing_iter.specs.Classes.{instruction_arg}
+use Rattle.indexing_iter.specs.declared.refusal.Refusal.{Refusal}
+use Rattle.indexing_iter.specs.declared.refusal.Refusal.TheVariants.{Arity, ChosenArgument, CodeSize, Starts, NoBody, KeyRecord, Register, OpenClause, NoRoom, Call, Out, Index as IndexOf}
+use Rattle.indexing_iter.specs.Refusals.{Checked, passed, refusal_number}
+use Rattle.std.specs.Prelude.{Ok, Err}
 use Rattle.indexing_iter.specs.Keys.{is_open}
-use Rattle.indexing_iter.specs.Clauses.{clauses_of, offsets_of, known}
-use Rattle.indexing_iter.specs.Checks.{otherwise, refuse, check_arity, check_chosen, check_size, check_starts, rising_below, has_body, record_bad, register_bad, register_step}
-use Rattle.indexing_iter.specs.Checks.{check_records, check_clause, check_clauses, open_somewhere, check_keyed, check_clauses_of, check_code, check_build}
+use Rattle.indexing_iter.specs.Clauses.{offsets_of, known}
+use Rattle.indexing_iter.specs.Checks.{otherwise, check_code, check_build}
 use Rattle.indexing_iter.proofs.CheckLaws.{Rising, code-arity, code-starts, code-offsets, offset-known, build-code, build-chosen}
-use Rattle.indexing_iter.proofs.KeyLaws.{or-else-first, or-else-next, known_small}
+use Rattle.indexing_iter.proofs.KeyLaws.{or-else-first, or-else-next, not-refused, known_small}
 use Rattle.indexing.proofs.Built.{built-is-expanded, keyed-by-checks}
 use Rattle.indexing.proofs.Tests.{both, le-true}
 use Rattle.indexing.specs.Build.{Program, program_of, open_at}
@@ -34,82 +31,42 @@ use Rattle.well_formed.proofs.CodeKeys.{code-keys}
 use Rattle.well_formed.proofs.Fields.{Narrow, code-narrow}
 use Rattle.well_formed.specs.WellFormed.{rising_ok, key_ok}
 
--- ---- no check refuses with the number 0
+-- ---- no refusal has the number 0
 
-abbrev Numbered : Checked → Type 0
-Numbered Passed = Unit {0}
-Numbered (Refused n) = 1 ≤ n
+numbered : (e : Refusal) → 1 ≤ refusal_number e
+numbered Arity = omega arith
+numbered ChosenArgument = omega arith
+numbered CodeSize = omega arith
+numbered Starts = omega arith
+numbered NoBody = omega arith
+numbered KeyRecord = omega arith
+numbered Register = omega arith
+numbered OpenClause = omega arith
+numbered NoRoom = omega arith
+numbered Call = omega arith
+numbered Out = omega arith
+numbered IndexOf = omega arith
 
-numbered-else : (a b : Checked) → Numbered a → Numbered b → Numbered (otherwise a b)
-numbered-else Passed b f g = g
-numbered-else (Refused n) b f g = f
-
-numbered-test : (t : Bool) (n : ℕ) (x : Checked) → 1 ≤ n → Numbered x → Numbered (cond t (Refused n) x)
-numbered-test true n x h f = h
-numbered-test false n x h f = f
-
-numbered-then : (t : Bool) (n : ℕ) (x : Checked) → 1 ≤ n → Numbered x → Numbered (cond t x (Refused n))
-numbered-then true n x h f = f
-numbered-then false n x h f = h
-
-numbered_step : (a : InstructionArg) (arity last : ℕ) (rest : ℕ → Checked) → ((n : ℕ) → Numbered (rest n)) → Numbered (register_step a arity last rest)
-numbered_step NonHead arity last rest f = tt
-numbered_step Prologue arity last rest f = f last
-numbered_step ArglessHead arity last rest f = f last
-numbered_step (ArgedHead reg key) arity last rest f = numbered-test (register_bad arity last reg) 7 (rest reg) (omega arith) (f reg)
-
-module _ (cls : ℕ → ℕ) (arity : ℕ) where
-  numbered-records : (rs : List Rec) (last : ℕ) → Numbered (check_records cls arity rs last)
-  unfolding check_records
-  numbered-records [] last = tt
-  numbered-records (r ∷ rs) last =
-      numbered-test (record_bad (cls r.kind) r) 6 (register_step (instruction_arg cls r) arity last (check_records cls arity rs)) (omega arith)
-      (numbered_step (instruction_arg cls r) arity last (check_records cls arity rs) (numbered-records rs))
-
-  numbered-clauses : (cs : List (List Rec)) → Numbered (check_clauses cls arity cs)
-  unfolding check_clauses check_clause
-  numbered-clauses [] = tt
-  numbered-clauses (c ∷ cs) = numbered-else (check_clause cls arity c) (check_clauses cls arity cs)
-      (numbered-then (has_body cls c) 5 (check_records cls arity c 0) (omega arith) (numbered-records c 0)) (numbered-clauses cs)
-
-  numbered-build : (c : ℕ) (code starts : List ℕ) → Numbered (check_build cls arity c code starts)
-  unfolding check_build check_clauses_of
-  numbered-build c code starts =
-      let n : ℕ = length code / 16 in
-      numbered-else (check_arity arity) _ (numbered-test (not (leb 1 arity && leb arity 32)) 1 Passed (omega arith) tt)
-      (numbered-else (check_chosen arity c) _ (numbered-test (eqb c 0 || ltb arity c) 2 Passed (omega arith) tt)
-      (numbered-else (check_clauses_of cls arity code starts) (check_keyed cls c (clauses_of (records_of code) starts))
-      (numbered-else (check_size code) _ (numbered-test (not (eqb (length code % 16) 0) || ltb 32768 n) 3 Passed (omega arith) tt)
-      (numbered-else (check_starts n starts) _
-      (numbered-test (not (leb 1 (length starts) && (leb (length starts) 1024 && rising_below n starts))) 4 Passed (omega arith) tt)
-      (numbered-clauses (clauses_of (records_of code) starts))))
-      (numbered-test (open_somewhere cls c (clauses_of (records_of code) starts)) 8 Passed (omega arith) tt)))
-
-accepted : (x : Checked) (S : Settings) (idx : Index) (buffer : List ℕ) → Numbered x → (built_by x S idx buffer).number ≡ 0 → x ≡ Passed
-accepted Passed S idx buffer f e = refl
-accepted (Refused n) S idx buffer f e = absurd (omega arith)
+accepted : (x : Checked) (S : Settings) (idx : Index) (buffer : List ℕ) → (built_by x S idx buffer).number ≡ 0 → x ≡ passed
+accepted (Ok u) S idx buffer h = refl
+accepted (Err e) S idx buffer h = absurd (omega (arith, numbered e))
 
 module _ (cls : ℕ → ℕ) (code starts : List ℕ) (S : Settings) (c : ℕ) (buffer : List ℕ) (accepts : (build_call cls code starts S c buffer).number ≡ 0) where
   -- an accepted build passed 1 to 9
-  build-checks : otherwise (check_build cls S.arity c code starts) (check_room buffer (index_of cls code starts S c)) ≡ Passed
+  build-checks : otherwise (check_build cls S.arity c code starts) (check_room buffer (index_of cls code starts S c)) ≡ passed
   unfolding build_call
   build-checks =
       let idx : Index = index_of cls code starts S c in
-      accepted (otherwise (check_build cls S.arity c code starts) (check_room buffer idx)) S idx buffer
-      (numbered-else (check_build cls S.arity c code starts) (check_room buffer idx) (numbered-build cls S.arity c code starts)
-      (numbered-test (ltb (capacity_of buffer) (size idx)) 9 Passed (omega arith) tt)) accepts
+      accepted (otherwise (check_build cls S.arity c code starts) (check_room buffer idx)) S idx buffer accepts
 
-  pub built-checked : check_build cls S.arity c code starts ≡ Passed
+  pub built-checked : check_build cls S.arity c code starts ≡ passed
   built-checked = or-else-first (check_build cls S.arity c code starts) (check_room buffer (index_of cls code starts S c)) build-checks
 
   pub built-room : size (index_of cls code starts S c) ≤ capacity_of buffer
-  built-room = go (ltb (capacity_of buffer) (size (index_of cls code starts S c))) refl
-      (or-else-next (check_build cls S.arity c code starts) (check_room buffer (index_of cls code starts S c)) build-checks)
-    where
-      go : (t : Bool) → ltb (capacity_of buffer) (size (index_of cls code starts S c)) ≡ t → refuse t 9 ≡ Passed
-          → size (index_of cls code starts S c) ≤ capacity_of buffer
-      go true e f = let z : ◌≡◌ {A = ℕ} 0 1 = cc in absurd (omega arith)
-      go false e f = ltb-false (capacity_of buffer) (size (index_of cls code starts S c)) e
+  built-room =
+      let over : Bool = ltb (capacity_of buffer) (size (index_of cls code starts S c)) in
+      let room = or-else-next (check_build cls S.arity c code starts) (check_room buffer (index_of cls code starts S c)) build-checks in
+      ltb-false (capacity_of buffer) (size (index_of cls code starts S c)) (not-refused over NoRoom passed room).0
 
   -- and gives the index's records and their count
   pub built-is : build_call cls code starts S c buffer
@@ -144,10 +101,10 @@ pub record Ready (P : Program) (kn : ℕ → Bool) (c : ℕ) (os : List ℕ) : T
   pub keys : (o a : ℕ) → is_open (P.key_of o a) ≡ false → key_ok (P.key_of o a) ≡ true
   pub narrow : (o a : ℕ) → Narrow (P.key_of o a)
 
-pub ready : (cls : ℕ → ℕ) (code starts : List ℕ) (S : Settings) (c : ℕ) → Bytes code → check_build cls S.arity c code starts ≡ Passed
+pub ready : (cls : ℕ → ℕ) (code starts : List ℕ) (S : Settings) (c : ℕ) → Bytes code → check_build cls S.arity c code starts ≡ passed
     → Ready (program_of cls S (records_of code) starts) (known starts) c (offsets_of starts)
 ready cls code starts S c bytes e =
-    let p : check_code cls S.arity code starts ≡ Passed = build-code cls S.arity code starts c e in
+    let p : check_code cls S.arity code starts ≡ passed = build-code cls S.arity code starts c e in
     let n : length (offsets_of starts) ≡ length starts = length-map starts suc in
     record {
       arity = (code-arity cls S.arity code starts p).1;

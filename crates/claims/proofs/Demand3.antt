@@ -13,7 +13,9 @@ use lib.ListN.{length, take, drop, get_or}
 use lib.Seq.{take_at}
 use Rattle.records.specs.Records.{records_of}
 use Rattle.indexing_iter.specs.declared.Settings.{Settings}
-use Rattle.indexing_iter.specs.declared.Checked.TheVariants.{Passed, Refused}
+use Rattle.indexing_iter.specs.Refusals.{passed}
+use Rattle.std.specs.Prelude.{Err}
+use Rattle.indexing_iter.specs.declared.refusal.Refusal.TheVariants.{Call as CallOf, Out, Index as IndexOf}
 use Rattle.indexing_iter.specs.Clauses.{offsets_of, known}
 use Rattle.indexing_iter.specs.Checks.{otherwise, refuse}
 use Rattle.indexing_iter.proofs.CheckLaws.{build-code}
@@ -97,8 +99,8 @@ module _ (cls : ℕ → ℕ) (code starts : List ℕ) (S : Settings) (c : ℕ) (
     parse-is : parse (take count (records_of index)) ≡ h.idx
     parse-is = rw (h.holds, h.counts) (came-parse P (known starts) c os is-ready buffer room h.idx came)
 
-    index-passes : check_index S starts index count ≡ Passed
-    index-passes = ap (λ (t : Bool). refuse (not t) 12) (both count_fits well)
+    index-passes : check_index S starts index count ≡ passed
+    index-passes = ap (λ (t : Bool). refuse (not t) IndexOf) (both count_fits well)
       where
         count_fits : leb count (capacity_of index) ≡ true
         count_fits = le-true count (capacity_of index) (omega (arith, capacity-is, h.counts, grown-fits P cap came room))
@@ -117,20 +119,20 @@ module _ (cls : ℕ → ℕ) (code starts : List ℕ) (S : Settings) (c : ℕ) (
 
       -- a walk is refused with 10 or 11, or accepted
       by-outcome : (X : Walked → Type 0)
-          → X (walked_by (Refused 10) S (result_of cls code starts S q.call index count) index q.out)
-          → X (walked_by (Refused 11) S (result_of cls code starts S q.call index count) index q.out)
-          → X (walked_by Passed S (result_of cls code starts S q.call index count) index q.out)
+          → X (walked_by (Err CallOf) S (result_of cls code starts S q.call index count) index q.out)
+          → X (walked_by (Err Out) S (result_of cls code starts S q.call index count) index q.out)
+          → X (walked_by passed S (result_of cls code starts S q.call index count) index q.out)
           → X (walked cls code starts S c index count q)
       unfolding walk_call
-      by-outcome X ten eleven passed =
+      by-outcome X ten eleven accepted =
           rw (build-code cls S.arity code starts c (built-checked cls code starts S c buffer accepts), index-passes)
           (go (not (eqb (length q.call) (16 * S.arity) && every argument_ok (records_of q.call))) (ltb (length q.out) (length starts)))
         where
           go : (t u : Bool)
-              → X (walked_by (otherwise (refuse t 10) (otherwise (refuse u 11) Passed)) S (result_of cls code starts S q.call index count) index q.out)
+              → X (walked_by (otherwise (refuse t CallOf) (otherwise (refuse u Out) passed)) S (result_of cls code starts S q.call index count) index q.out)
           go true u = ten
           go false true = eleven
-          go false false = passed
+          go false false = accepted
 
       -- what holds of the walk by definition
       one : Runs.Each P c os is-ready.rising is-ready.keyed cap (map call_of before) h.idx Q
@@ -139,10 +141,10 @@ module _ (cls : ℕ → ℕ) (code starts : List ℕ) (S : Settings) (c : ℕ) (
       abbrev got : Result
       got = result_of cls code starts S q.call index count
 
-      abbrev passed : Walked
-      passed = walked_by Passed S got index q.out
+      abbrev answered : Walked
+      answered = walked_by passed S got index q.out
 
-      selected-is : selected cls code starts S c passed ≡ got.found.offsets
+      selected-is : selected cls code starts S c answered ≡ got.found.offsets
       selected-is = take_at got.found.offsets (drop (length got.found.offsets) q.out) (length got.found.offsets) refl
 
       found-is : got.found ≡ (walk_by P cap Q h.idx).found
@@ -156,7 +158,7 @@ module _ (cls : ℕ → ℕ) (code starts : List ℕ) (S : Settings) (c : ℕ) (
       fresh-is m = found-is ∙ one.fresh m ∙ ap (λ (r : Result). r.found) (sym (fresh-by m))
 
       -- the answer is the fresh index's with unlimited space
-      is-fresh : Unlimited cls code starts S c q passed
+      is-fresh : Unlimited cls code starts S c q answered
       is-fresh =
           let e : Enough (λ m. (walk_by P m Q (build P c os)).whole) = enough P Q P.arity 1 (build P c os) (line 0) in
           record {
@@ -176,14 +178,14 @@ module _ (cls : ℕ → ℕ) (code starts : List ℕ) (S : Settings) (c : ℕ) (
       left_is = ap (λ (r : Result). r.left) got-is
 
       -- a call made again leaves the index
-      is-again : Memᴰ q.call before → (passed.index ≡ index) × (passed.records ≡ count)
+      is-again : Memᴰ q.call before → (answered.index ≡ index) × (answered.records ≡ count)
       is-again m =
           let e : got.left ≡ h.idx = left_is ∙ one.again (Memᴰ.map call_of m) in (
             rw (e, h.holds) (stored-over S.dynamic h.idx buffer h.idx (le_refl (size h.idx))),
             ap size e ∙ sym h.counts,
           )
 
-      is-accepted : Accepted cls code starts S c index count q passed
+      is-accepted : Accepted cls code starts S c index count q answered
       is-accepted = record {
         all = rw (selected-is, found-is) one.all;
         in_order = rw (selected-is, found-is) one.order;
@@ -197,7 +199,7 @@ module _ (cls : ℕ → ℕ) (code starts : List ℕ) (S : Settings) (c : ℕ) (
       }
 
       -- the next walk gets the index left, with its count
-      holds-next : Holds (q.call ∷ before) passed.index passed.records
+      holds-next : Holds (q.call ∷ before) answered.index answered.records
       holds-next = record {
         idx = (walk_by P cap Q h.idx).left;
         kept = kept_next P c os is-ready.rising is-ready.keyed cap h.idx came Q (map call_of before) h.kept;
@@ -226,7 +228,7 @@ module _ (cls : ℕ → ℕ) (code starts : List ℕ) (S : Settings) (c : ℕ) (
         (λ e. omega arith),
         (λ e. is-accepted before index count h q),
         is-again before index count h q,
-        every-from qs (q.call ∷ before) (passed before index count h q).index (passed before index count h q).records
+        every-from qs (q.call ∷ before) (answered before index count h q).index (answered before index count h q).records
             (holds-next before index count h q),
       ) in
       (record { not-12 = next.0; accepted = next.1; again = next.2 }, next.3)

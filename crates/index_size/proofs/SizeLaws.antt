@@ -1,36 +1,35 @@
 -- The count by the columns that the code fills, or a refusal, is the size call's answer (indexing/specs/Builder).
 -- Assumes nothing.
-use mathlib.Core.Path.{◌≡◌, refl, ap, ◌∙◌}
+use mathlib.Core.Path.{◌≡◌, refl, ◌∙◌}
 use mathlib.Core.List.{List}
 use Prim.Native.Nat.{ℕ, ◌+◌, ◌-◌}
 use lib.ListN.{length, replicate}
 use Rattle.records.specs.Records.{records_of}
 use Rattle.indexing_iter.specs.declared.Settings.{Settings}
-use Rattle.indexing_iter.specs.declared.Checked.{Checked}
-use Rattle.indexing_iter.specs.declared.Checked.TheVariants.{Passed, Refused}
+use Rattle.indexing_iter.specs.declared.refusal.Refusal.{Refusal}
+use Rattle.indexing_iter.specs.Refusals.{passed}
+use Rattle.std.specs.Prelude.{Ok, Err}
 use Rattle.indexing_iter.specs.Classes.{class_of}
 use Rattle.indexing_iter.specs.Clauses.{key_of, offsets_of}
-use Rattle.indexing_iter.specs.Checks.{number_of, check_build}
+use Rattle.indexing_iter.specs.Checks.{check_build}
 use Rattle.indexing.specs.Lines.{size}
 use Rattle.indexing.specs.Columns.{switch_recs, new_lines_recs, seed_recs}
 use Rattle.indexing.specs.Expanding.{ColumnsOf}
 use Rattle.indexing.specs.Builder.{index_of, size_call}
 use Rattle.index_writer.proofs.IndexLaws.{seeds-are, switch-is, lines_are, size_is}
-use Rattle.index_size.specs.declared.SizeAnswer.TheVariants.{Needs, Refused as Turned}
 use Rattle.index_size.specs.Answer.{sized_of}
 
 module _ (code starts : List ℕ) (S : Settings) (c : ℕ) where
   -- a refusal of the checks
-  pub refused-by : (a : Checked) (n m : ℕ) → a ≡ check_build class_of S.arity c code starts → a ≡ Refused n → m ≡ number_of a
-      → sized_of (Turned m) ≡ size_call class_of code starts S c
+  pub refused-by : (e : Refusal) → Err e ≡ check_build class_of S.arity c code starts → sized_of (Err e) ≡ size_call class_of code starts S c
   unfolding size_call
-  refused-by a n m e f g = ap (λ (x : ℕ). sized_of (Turned x)) (g ∙ ap number_of f) ∙ rw (← e, f)
+  refused-by e f = rw (← f) refl
 
   -- where the checks passed
-  module _ (passed : check_build class_of S.arity c code starts ≡ Passed) where
-    pub sized-by : (n : ℕ) → n ≡ size (index_of class_of code starts S c) → sized_of (Needs n) ≡ size_call class_of code starts S c
+  module _ (accepted : check_build class_of S.arity c code starts ≡ passed) where
+    pub sized-by : (n : ℕ) → n ≡ size (index_of class_of code starts S c) → sized_of (Ok n) ≡ size_call class_of code starts S c
     unfolding size_call
-    sized-by n e = rw (passed, e)
+    sized-by n e = rw (accepted, e)
 
     -- the count of line 0, its switch and the new lines, by the columns
     pub counted-by : {os leaders heads sizes zeros bits opens : List ℕ} → os ≡ offsets_of starts
@@ -44,4 +43,4 @@ module _ (code starts : List ℕ) (S : Settings) (c : ℕ) where
         let zs : List ℕ = replicate (length starts) 7 in
         let t : zs ≡ replicate (length starts) 7 = refl in
         (rw (seeds-are code starts S c o t C, switch-is code starts S c o t C, lines_are code starts S c o t C) at (e bits os zs))
-        ∙ size_is code starts S c passed
+        ∙ size_is code starts S c accepted

@@ -18,7 +18,7 @@ use Rattle.records.specs.Records.{records_of, zero_rec}
 use Rattle.records.proofs.Filled.{Filled}
 use Rattle.indexing_iter.specs.declared.OptArgIndexKey.{OptArgIndexKey as Key}
 use Rattle.indexing_iter.specs.declared.OptArgIndexKey.TheVariants.{List as ListKey, Literal, None, Structure}
-use Rattle.indexing_iter.specs.declared.Checked.TheVariants.{Passed}
+use Rattle.indexing_iter.specs.Refusals.{passed}
 use Rattle.indexing_iter.specs.Keys.{is_open}
 use Rattle.indexing_iter.specs.Clauses.{key_of, known, offsets_of}
 use Rattle.indexing_iter.specs.Rows.{head_of, keys_of}
@@ -184,7 +184,7 @@ pub row_at : (f : Key → ℕ) (cls : ℕ → ℕ) (rs : List Rec) (starts : Lis
 row_at f cls rs starts o arity l rest a e h k = ap (λ (x : List ℕ). get_or x (a - 1) 0) e ∙ collected-at f cls rs starts o arity rest a h k
 
 -- the open arguments of a clause of checked code, by a list that begins with the heads of its keys
-pub row_open : (cls : ℕ → ℕ) (code starts : List ℕ) (o arity : ℕ) (l rest : List ℕ) → known starts o ≡ true → check_code cls arity code starts ≡ Passed
+pub row_open : (cls : ℕ → ℕ) (code starts : List ℕ) (o arity : ℕ) (l rest : List ℕ) → known starts o ≡ true → check_code cls arity code starts ≡ passed
     → l ≡ map head_of (keys_of cls (records_of code) starts o arity) ++ rest → open_numbers l arity ≡ open_row (key_of cls (records_of code) starts) arity o
 row_open cls code starts o arity l rest k c e =
     open_row_lem (key_of cls (records_of code) starts) arity o l
@@ -260,7 +260,7 @@ rising-below n (s ∷ ss) e zero h = omega (arith, rising-head n s ss e, end_bel
 rising-below n (s ∷ ss) e (suc i) h = rising-below n ss (rising-tail n s ss e) i (le_of_suc-le-suc h)
 
 -- the starts of checked code are below 32768
-pub starts-below : (cls : ℕ → ℕ) (arity : ℕ) (code starts : List ℕ) → check_code cls arity code starts ≡ Passed → NumbersBelow 32768 starts
+pub starts-below : (cls : ℕ → ℕ) (arity : ℕ) (code starts : List ℕ) → check_code cls arity code starts ≡ passed → NumbersBelow 32768 starts
 starts-below cls arity code starts e i h =
     let k : CodeOk cls arity (records_of code) starts = code_ok cls arity code starts e in
     omega (arith, k.size, rising-below (length (records_of code)) starts k.rising i h)

@@ -12,7 +12,7 @@ use Rattle.records.specs.Moves.{spliced}
 use Rattle.indexing_iter.specs.declared.OptArgIndexKey.{OptArgIndexKey as Key}
 use Rattle.indexing_iter.specs.declared.OptArgIndexKey.TheVariants.{None, Literal, Structure, List as ListKey}
 use Rattle.indexing_iter.specs.declared.Settings.{Settings}
-use Rattle.indexing_iter.specs.declared.Checked.TheVariants.{Passed}
+use Rattle.indexing_iter.specs.Refusals.{passed}
 use Rattle.indexing_iter.specs.Classes.{class_of}
 use Rattle.indexing_iter.specs.Clauses.{key_of, offsets_of}
 use Rattle.indexing_iter.specs.Checks.{check_code, check_build}
@@ -42,7 +42,7 @@ key-ranged (Literal s b) h = h
 key-ranged (Structure n f) h = omega (arith, h.1)
 key-ranged ListKey h = tt
 
-pub known-ranged : (code starts : List ℕ) (arity : ℕ) → check_code class_of arity code starts ≡ Passed → (os : List ℕ) → AllKnown starts os → (a i : ℕ)
+pub known-ranged : (code starts : List ℕ) (arity : ℕ) → check_code class_of arity code starts ≡ passed → (os : List ℕ) → AllKnown starts os → (a i : ℕ)
     → i < length os → InRange (key_of class_of (records_of code) starts (get_or os i 0) a)
 known-ranged code starts arity e os k a i h =
     key-ranged (key_of class_of (records_of code) starts (get_or os i 0) a) (key-of-range class_of arity code starts (get_or os i 0) a (k i h) e)
@@ -83,15 +83,15 @@ module _ (code starts : List ℕ) (S : Settings) (c : ℕ) where
     lines_are = rw (C.leaders-are, C.heads-are, C.opens-are, o, t)
 
   -- in code that passed the builder's checks
-  module _ (passed : check_build class_of S.arity c code starts ≡ Passed) where
-    pub checked : check_code class_of S.arity code starts ≡ Passed
-    checked = build-code class_of S.arity code starts c passed
+  module _ (accepted : check_build class_of S.arity c code starts ≡ passed) where
+    pub checked : check_code class_of S.arity code starts ≡ passed
+    checked = build-code class_of S.arity code starts c accepted
 
     pub above : 1 ≤ c
-    above = (build-chosen class_of S.arity code starts c passed).0
+    above = (build-chosen class_of S.arity code starts c accepted).0
 
     pub below : c ≤ S.arity
-    below = (build-chosen class_of S.arity code starts c passed).1
+    below = (build-chosen class_of S.arity code starts c accepted).1
 
     pub small : S.arity ≤ 32
     small = (code_ok class_of S.arity code starts checked).arity-to
@@ -103,7 +103,7 @@ module _ (code starts : List ℕ) (S : Settings) (c : ℕ) where
     ranged = known-ranged code starts S.arity checked all (offsets-known starts) c
 
     keyed : open_at (program_by S K) c all ≡ []
-    keyed = keyed-by-checks class_of code starts S c passed
+    keyed = keyed-by-checks class_of code starts S c accepted
 
     own : Tagged S (initial 7 all) zs
     own = tagged-initial S 7 all zs (λ e j h. get_or-replicate (length starts) j 7 0 (omega (arith, length-map starts suc)))

@@ -1,5 +1,5 @@
 -- Laws of what a loop over the numbers below n gathers. Assumes nothing.
-use mathlib.Core.Path.{◌≡◌, refl, sym, ap, ap₂, ◌∙◌}
+use mathlib.Core.Path.{◌≡◌, refl, ap, ap₂, ◌∙◌}
 use Prim.Native.Nat.{ℕ, zero, suc, ◌+◌, ◌≤◌, ◌<◌}
 use native.Mathlib.Nat.{not-suc-le-zero, add-zero}
 use native.Mathlib.Numerals.{add-one}
@@ -43,10 +43,6 @@ count-le t (suc n) = go (t n) (count-le t n)
     go true h = omega arith
     go false h = omega arith
 
--- none of the numbers passed, and they are all
-pub any-end : (t : ℕ → Bool) (n i : ℕ) → any_to t i ≡ false → i ≡ n → false ≡ any_to t n
-any-end t n i h e = sym h ∙ ap (any_to t) e
-
 -- lists gathered
 module _ {ℓ} {A : Type ℓ} (f : ℕ → List A) where
   pub list-none : list_to f 0 ≡ []
@@ -89,23 +85,3 @@ pub list_count_lem {ℓ} : {A : Type ℓ} (f : ℕ → List A) (t : ℕ → Bool
 unfolding list_to count_to
 list_count_lem f t h zero = refl
 list_count_lem f t h (suc n) = length-append (list_to f n) (f n) ∙ ap₂ (λ (x y : ℕ). x + y) (list_count_lem f t h n) (h n)
-
--- A loop that counts: its invariant, its start, its two turns and its end.
-pub record Counted (t : ℕ → Bool) (n k i : ℕ) : Type 0 where
-  pub within : i ≤ n
-  pub small : k ≤ i
-  pub counted : k ≡ count_to t i
-
-pub counted_start : (t : ℕ → Bool) (n : ℕ) → Counted t n 0 0
-counted_start t n = record { within = omega arith; small = omega arith; counted = sym (count_none t) }
-
-pub counted-yes : {t : ℕ → Bool} {n k i : ℕ} (k' : ℕ) → Counted t n k i → i < n → t i ≡ true → k' ≡ k + 1 → Counted t n k' (i + 1)
-counted-yes {t} {n} {k} {i} k' C h e f =
-    record { within = omega arith; small = omega arith; counted = f ∙ ap (λ (x : ℕ). x + 1) C.counted ∙ sym (count-more t i e) }
-
-pub counted-no : {t : ℕ → Bool} {n k i : ℕ} (k' : ℕ) → Counted t n k i → i < n → t i ≡ false → k' ≡ k → Counted t n k' (i + 1)
-counted-no {t} {n} {k} {i} k' C h e f =
-    record { within = omega arith; small = omega arith; counted = f ∙ C.counted ∙ sym (count-skip t i e) }
-
-pub counted-end : {t : ℕ → Bool} {n k i : ℕ} → Counted t n k i → n ≤ i → k ≡ count_to t n
-counted-end {t} {n} {k} {i} C h = let e : i ≡ n = omega arith in C.counted ∙ ap (count_to t) e

@@ -1,3 +1,4 @@
 pub mod Choices
 pub mod Chains
 pub mod Writing
+pub mod Written

@@ -1,149 +1,108 @@
 // The columns of a line's clauses at one argument: offsets and tags, keys, open arguments, leaders and bucket sizes.
-ghost use Rattle.std.specs.Prelude.{◌≡◌, true, false, cond, ◌+◌, ◌*◌, ◌≤◌, ◌<◌, length, get_or, replicate, eqb, ltb};
+ghost use Rattle.std.specs.Prelude.{◌≡◌, true, ◌+◌, ◌*◌, ◌≤◌, ◌<◌, length, replicate};
 ghost use Rattle.std.proofs.Math.Seq.{slice};
 ghost use Rattle.records.specs.Records.{records_of};
 ghost use Rattle.indexing_iter.specs.Classes.{class_of};
 ghost use Rattle.indexing_iter.specs.Keys.{bits_of};
 ghost use Rattle.indexing_iter.specs.Rows.{head_of};
 ghost use Rattle.indexing_iter.specs.Clauses.{key_of, known, offsets_of};
-ghost use Rattle.indexing_iter.specs.declared.Checked.{Checked};
-ghost use Rattle.indexing_iter.specs.Checks.{check_code};
-ghost use Rattle.indexing.specs.Upto.{bit};
-ghost use Rattle.indexing.specs.Columns.{words_of, same_at, leader_of, leaders_to, sizes_to, heads_to, bits_to, open_row, opens_to};
+ghost use Rattle.indexing.specs.Columns.{words_of, leader_of, leaders_to, sizes_to, heads_to, bits_to, open_row, opens_to};
 ghost use Rattle.index_writer.specs.Choices.{subs_of, NumbersBelow, AllKnown, open_numbers};
 ghost use Rattle.indexing.specs.Expanding.{ColumnsOf};
 ghost use Rattle.indexing.specs.Chains.{Chained};
 ghost use Rattle.index_writer.specs.Chains.{bucket_at, leads_in};
 
+use crate::clauses::{Clauses, Columns};
+use crate::keys::Keys;
+use crate::tags::Tag;
 use indexing::key_buckets;
+use indexing_iter::program::Program;
 
 // A key as two numbers: its sort and arity in one, and its bits.
-#[derive(Clone, Copy)]
+#[derive(Clone, Copy, Debug, PartialEq, Eq)]
 struct KeyNumbers {
-    pub head: u32,
-    pub bits: u64,
-}
-
-// Whether the keys of clauses i and j are equal.
-fn same_at(heads: &[u32], bits: &[u64], i: usize, j: usize) -> bool
-    requires { (i < length heads.now) × (j < length heads.now) × (length bits.now ≡ length heads.now) }
-    ensures { result ≡ same_at heads.now bits.now i j }
-{
-    indexing_iter::same_bits(heads[i], bits[i], heads[j], bits[j])
-}
-
-// The leader of clause j.
-fn leader_of(heads: &[u32], bits: &[u64], j: usize) -> u32
-    requires { (j < length heads.now) × (length bits.now ≡ length heads.now) × (length heads.now ≤ 1024) }
-    ensures { result ≡ leader_of heads.now bits.now j }
-{
-    let mut i = 0;
-    while i < j {
-        if same_at(heads, bits, i, j) {
-            return i as u32;
-        }
-        i += 1;
-    }
-    j as u32
+    head: u32,
+    bits: u64,
 }
 
 // The leader of each clause, each searched from the first clause on.
-fn search_leaders(heads: &[u32], bits: &[u64], leaders: &mut [u32])
-    requires { (length bits.now ≡ length heads.now) × (length leaders.old ≡ length heads.now) × (length heads.now ≤ 1024) }
-    ensures { leaders.new ≡ leaders_to heads.now bits.now (length heads.now) }
+fn search_leaders(keys: &Keys, leaders: &mut [u32])
+    requires { length leaders.old ≡ length keys.now.heads.now }
+    ensures { leaders.new ≡ leaders_to keys.now.heads.now keys.now.bits.now (length keys.now.heads.now) }
 {
-    let n = heads.len();
-    let mut j = 0;
-    while j < n {
-        leaders[j] = leader_of(heads, bits, j);
-        j += 1;
+    for j in 0..keys.heads.len() {
+        leaders[j] = keys.leader_of(j);
     }
+}
+
+// The clauses that lead themselves, in buckets by their keys, as key_buckets::push chains them.
+#[derive(Drop)]
+struct Chains {
+    firsts: [u16; 1021],
+    links: [u16; 1024],
 }
 
 // The leader of clause j: the leaders before it in its bucket are looked at, one by one. Where 32 of them do not decide it, it is searched
 // from the first clause on: a crowded bucket costs little more than no buckets.
-fn chained_leader(
-    heads: &[u32],
-    bits: &[u64],
-    j: usize,
-    bucket: usize,
-    firsts: &[u16],
-    links: &[u16],
-) -> u32
-    requires j_in_bounds { (j < length heads.now) × (length bits.now ≡ length heads.now) × (length heads.now ≤ 1024) }
-    requires bucket_value { (bucket ≡ bucket_at heads.now bits.now j) × (bucket < length firsts.now) × (j ≤ length links.now) }
-    requires chained { Chained (leads_in heads.now bits.now) firsts.now links.now j }
-    ensures { result ≡ leader_of heads.now bits.now j }
+fn chained_leader(keys: &Keys, j: usize, bucket: usize, chains: &Chains) -> u32
+    requires j_in_bounds { j < length keys.now.heads.now }
+    requires bucket_value { (bucket ≡ bucket_at keys.now.heads.now keys.now.bits.now j) × (bucket < 1021) }
+    requires chained { Chained (leads_in keys.now.heads.now keys.now.bits.now) chains.now.firsts chains.now.links j }
+    ensures { result ≡ leader_of keys.now.heads.now keys.now.bits.now j }
 {
-    let mut number = firsts[bucket] as usize;
-    let mut steps = 0usize;
-    while 0 < number {
-        if steps == 32 {
-            return leader_of(heads, bits, j);
+    let mut number = chains.firsts[bucket] as usize;
+    for _ in 0..32 {
+        if number == 0 {
+            return j as u32;
         }
         let i = number - 1;
-        if same_at(heads, bits, i, j) {
+        if keys.same_at(i, j) {
             return i as u32;
         }
-        number = links[i] as usize;
-        steps += 1;
+        number = chains.links[i] as usize;
     }
-    j as u32
+    keys.leader_of(j)
 }
 
 // The leader of clause j, which joins its bucket if it leads itself.
-fn next_leader(heads: &[u32], bits: &[u64], j: usize, firsts: &mut [u16], links: &mut [u16]) -> u32
-    requires j_in_bounds { (j < length heads.now) × (length bits.now ≡ length heads.now) × (length heads.now ≤ 1024) }
-    requires firsts_len { (length firsts.old ≡ 1021) × (length links.old ≡ 1024) }
-    requires chained { Chained (leads_in heads.now bits.now) firsts.old links.old j }
-    ensures value { result ≡ leader_of heads.now bits.now j }
-    ensures chained_2 { Chained (leads_in heads.now bits.now) firsts.new links.new (j + 1) }
+fn next_leader(keys: &Keys, j: usize, chains: &mut Chains) -> u32
+    requires j_in_bounds { j < length keys.now.heads.now }
+    requires chained { Chained (leads_in keys.now.heads.now keys.now.bits.now) chains.old.firsts chains.old.links j }
+    ensures value { result ≡ leader_of keys.now.heads.now keys.now.bits.now j }
+    ensures chained_2 { Chained (leads_in keys.now.heads.now keys.now.bits.now) chains.new.firsts chains.new.links (j + 1) }
 {
-    let bucket = key_buckets::bucket_of(heads[j], bits[j], 1021);
-    let leader = chained_leader(heads, bits, j, bucket, firsts, links);
+    let bucket = key_buckets::bucket_of(keys.heads[j], keys.bits[j], 1021);
+    let leader = chained_leader(keys, j, bucket, chains);
     let own = j as u32;
     if leader == own {
-        key_buckets::push(firsts, links, bucket, j);
+        key_buckets::push(&mut chains.firsts, &mut chains.links, bucket, j);
     }
     leader
 }
 
 // The leader of each clause, searched among those in its bucket.
-fn chain_leaders(heads: &[u32], bits: &[u64], leaders: &mut [u32])
-    requires { (length bits.now ≡ length heads.now) × (length leaders.old ≡ length heads.now) × (length heads.now ≤ 1024) }
-    ensures { leaders.new ≡ leaders_to heads.now bits.now (length heads.now) }
+fn chain_leaders(keys: &Keys, leaders: &mut [u32])
+    requires { length leaders.old ≡ length keys.now.heads.now }
+    ensures { leaders.new ≡ leaders_to keys.now.heads.now keys.now.bits.now (length keys.now.heads.now) }
 {
-    let mut firsts = [0u16; 1021];
-    let mut links = [0u16; 1024];
-    let n = heads.len();
-    let mut j = 0;
-    while j < n {
-        leaders[j] = next_leader(heads, bits, j, &mut firsts, &mut links);
-        j += 1;
+    let mut chains = Chains {
+        firsts: [0; 1021],
+        links: [0; 1024],
+    };
+    for j in 0..keys.heads.len() {
+        leaders[j] = next_leader(keys, j, &mut chains);
     }
 }
 
 // The leader of each clause: the place of the first clause with an equal key. Few clauses are searched from the first on, more by buckets.
-pub fn find_leaders(heads: &[u32], bits: &[u64], leaders: &mut [u32])
-    requires { (length bits.now ≡ length heads.now) × (length leaders.old ≡ length heads.now) × (length heads.now ≤ 1024) }
-    ensures { leaders.new ≡ leaders_to heads.now bits.now (length heads.now) }
+pub fn find_leaders(keys: &Keys, leaders: &mut [u32])
+    requires { length leaders.old ≡ length keys.now.heads.now }
+    ensures { leaders.new ≡ leaders_to keys.now.heads.now keys.now.bits.now (length keys.now.heads.now) }
 {
-    if heads.len() <= 32 {
-        search_leaders(heads, bits, leaders);
+    if keys.heads.len() <= 32 {
+        search_leaders(keys, leaders);
     } else {
-        chain_leaders(heads, bits, leaders);
-    }
-}
-
-// Clears a column.
-pub fn zeros(column: &mut [u32])
-    ensures { column.new ≡ replicate (length column.old) 0 }
-{
-    let n = column.len();
-    let mut i = 0;
-    while i < n {
-        column[i] = 0;
-        i += 1;
+        chain_leaders(keys, leaders);
     }
 }
 
@@ -153,35 +112,21 @@ pub fn count_sizes(leaders: &[u32], sizes: &mut [u32])
     requires numbers_below { NumbersBelow (length leaders.now) leaders.now }
     ensures { sizes.new ≡ sizes_to leaders.now (length leaders.now) }
 {
-    zeros(sizes);
-    let n = leaders.len();
-    let mut j = 0;
-    while j < n {
+    sizes.fill(0);
+    for j in 0..leaders.len() {
         let i = leaders[j] as usize;
         sizes[i] += 1;
-        j += 1;
     }
 }
 
 // The leaders of the clauses, and the sizes of the buckets that they lead.
-fn lead_columns(heads: &[u32], bits: &[u64], leaders: &mut [u32], sizes: &mut [u32])
-    requires { (length bits.now ≡ length heads.now) × (length leaders.old ≡ length heads.now) × (length sizes.old ≡ length heads.now) × (length heads.now ≤ 1024) }
-    ensures leaders_after { leaders.new ≡ leaders_to heads.now bits.now (length heads.now) }
+fn lead_columns(keys: &Keys, leaders: &mut [u32], sizes: &mut [u32])
+    requires { (length leaders.old ≡ length keys.now.heads.now) × (length sizes.old ≡ length keys.now.heads.now) }
+    ensures leaders_after { leaders.new ≡ leaders_to keys.now.heads.now keys.now.bits.now (length keys.now.heads.now) }
     ensures sizes_after { sizes.new ≡ sizes_to leaders.new (length leaders.new) }
 {
-    find_leaders(heads, bits, leaders);
+    find_leaders(keys, leaders);
     count_sizes(leaders, sizes);
-}
-
-// Whether an argument, counted from 0, is one of the n arguments and has head 0.
-fn open_number(heads: &[u32], n: usize, b: usize) -> u8
-    requires { n ≤ length heads.now }
-    ensures { result ≡ bit (cond (ltb b n) (eqb (get_or heads.now b 0) 0) false) }
-{
-    if n <= b {
-        return 0;
-    }
-    if heads[b] == 0 { 1 } else { 0 }
 }
 
 // The open arguments of a clause, by the heads of its keys.
@@ -190,33 +135,23 @@ fn put_open_row(opens: &mut [u8], heads: &[u32], arity: u32)
     ensures { opens.new ≡ open_numbers heads.now arity }
 {
     let n = arity as usize;
-    let mut b = 0;
-    while b < 32 {
-        opens[b] = open_number(heads, n, b);
-        b += 1;
+    for b in 0..32 {
+        opens[b] = u8::from(b < n && heads[b] == 0);
     }
 }
 
 // The key at argument a of the clause at a known offset of checked code; where the clause is open goes to opens.
-fn read_row(
-    code: &[u8],
-    starts: &[u32],
-    arity: u32,
-    offset: u32,
-    a: u32,
-    opens: &mut [u8],
-) -> KeyNumbers
-    requires starts_value { check_code class_of arity code.now starts.now ≡ Checked.Passed }
-    requires offset_value { known starts.now offset ≡ true }
-    requires le_a { (1 ≤ a) × (a ≤ arity) × (length opens.old ≡ 32) }
-    ensures head_value { result.head ≡ head_of (key_of class_of (records_of code.now) starts.now offset a) }
-    ensures bits_value { result.bits ≡ bits_of (key_of class_of (records_of code.now) starts.now offset a) }
-    ensures opens_after { opens.new ≡ open_row (key_of class_of (records_of code.now) starts.now) arity offset }
+fn read_row(program: &Program, offset: u32, a: u32, opens: &mut [u8]) -> KeyNumbers
+    requires offset_value { known program.now.starts.now offset ≡ true }
+    requires le_a { (1 ≤ a) × (a ≤ program.now.settings.arity) × (length opens.old ≡ 32) }
+    ensures head_value { result.head ≡ head_of (key_of class_of (records_of program.now.code.now) program.now.starts.now offset a) }
+    ensures bits_value { result.bits ≡ bits_of (key_of class_of (records_of program.now.code.now) program.now.starts.now offset a) }
+    ensures opens_after { opens.new ≡ open_row (key_of class_of (records_of program.now.code.now) program.now.starts.now) program.now.settings.arity offset }
 {
     let mut heads = [0u32; 32];
     let mut bits = [0u64; 32];
-    indexing_iter::collect_opt_arg_index_keys(code, starts, arity, offset, &mut heads, &mut bits);
-    put_open_row(opens, &heads, arity);
+    indexing_iter::collect_opt_arg_index_keys(program, offset, &mut heads, &mut bits);
+    put_open_row(opens, &heads, program.settings.arity);
     let at = a as usize - 1;
     KeyNumbers {
         head: heads[at],
@@ -226,40 +161,33 @@ fn read_row(
 
 // The keys of the clauses offs at argument a, and where each clause is open, in one pass over the clauses' records.
 pub fn read_keys(
-    code: &[u8],
-    starts: &[u32],
-    arity: u32,
+    program: &Program,
     offs: &[u32],
     a: u32,
     heads: &mut [u32],
     bits: &mut [u64],
     opens: &mut [u8],
 )
-    requires starts_value { check_code class_of arity code.now starts.now ≡ Checked.Passed }
-    requires all_known { AllKnown starts.now offs.now }
-    requires le_a { (1 ≤ a) × (a ≤ arity) }
+    requires all_known { AllKnown program.now.starts.now offs.now }
+    requires le_a { (1 ≤ a) × (a ≤ program.now.settings.arity) }
     requires offs_len_bound { (length offs.now ≤ 1024) × (length heads.old ≡ length offs.now) × (length bits.old ≡ length offs.now) × (length opens.old ≡ 32 * length offs.now) }
-    ensures heads_after { heads.new ≡ heads_to (key_of class_of (records_of code.now) starts.now) offs.now a (length offs.now) }
-    ensures bits_after { bits.new ≡ bits_to (key_of class_of (records_of code.now) starts.now) offs.now a (length offs.now) }
-    ensures opens_after { opens.new ≡ opens_to (key_of class_of (records_of code.now) starts.now) arity offs.now (length offs.now) }
+    ensures heads_after { heads.new ≡ heads_to (key_of class_of (records_of program.now.code.now) program.now.starts.now) offs.now a (length offs.now) }
+    ensures bits_after { bits.new ≡ bits_to (key_of class_of (records_of program.now.code.now) program.now.starts.now) offs.now a (length offs.now) }
+    ensures opens_after { opens.new ≡ opens_to (key_of class_of (records_of program.now.code.now) program.now.starts.now) program.now.settings.arity offs.now (length offs.now) }
 {
-    let n = offs.len();
-    let mut i = 0;
-    while i < n {
+    for i in 0..offs.len() {
         let o = 32 * i;
         let e = o + 32;
-        let k = read_row(code, starts, arity, offs[i], a, &mut opens[o..e]);
+        let k = read_row(program, offs[i], a, &mut opens[o..e]);
         heads[i] = k.head;
         bits[i] = k.bits;
-        i += 1;
     }
 }
 
 // All columns of the clauses offs at argument a; whole is the leaders column in which they are one bucket, led by clause 0.
+// ColumnArrays::fill is its one caller, and lends the front of each of its arrays: so the columns stay parameters.
 pub fn fill_columns(
-    code: &[u8],
-    starts: &[u32],
-    arity: u32,
+    program: &Program,
     offs: &[u32],
     a: u32,
     leaders: &mut [u32],
@@ -269,16 +197,90 @@ pub fn fill_columns(
     bits: &mut [u64],
     opens: &mut [u8],
 )
-    requires starts_value { check_code class_of arity code.now starts.now ≡ Checked.Passed }
-    requires all_known { AllKnown starts.now offs.now }
-    requires le_a { (1 ≤ a) × (a ≤ arity) }
+    requires all_known { AllKnown program.now.starts.now offs.now }
+    requires le_a { (1 ≤ a) × (a ≤ program.now.settings.arity) }
     requires offs_len_bound { (length offs.now ≤ 1024) × (length leaders.old ≡ length offs.now) × (length heads.old ≡ length offs.now) × (length sizes.old ≡ length offs.now) }
     requires whole_len { (length whole.old ≡ length offs.now) × (length bits.old ≡ length offs.now) × (length opens.old ≡ 32 * length offs.now) }
-    ensures { ColumnsOf (key_of class_of (records_of code.now) starts.now) arity offs.now a leaders.new heads.new sizes.new whole.new bits.new opens.new }
+    ensures { ColumnsOf (key_of class_of (records_of program.now.code.now) program.now.starts.now) program.now.settings.arity offs.now a leaders.new heads.new sizes.new whole.new bits.new opens.new }
 {
-    read_keys(code, starts, arity, offs, a, heads, bits, opens);
-    lead_columns(heads, bits, leaders, sizes);
-    zeros(whole);
+    read_keys(program, offs, a, heads, bits, opens);
+    lead_columns(&Keys { heads, bits }, leaders, sizes);
+    whole.fill(0);
+}
+
+// Arrays for the columns of as many clauses as a predicate may have.
+#[derive(Drop)]
+pub struct ColumnArrays {
+    leaders: [u32; 1024],
+    heads: [u32; 1024],
+    sizes: [u32; 1024],
+    whole: [u32; 1024],
+    bits: [u64; 1024],
+    opens: [u8; 32768],
+}
+
+impl ColumnArrays {
+    pub fn new() -> Self {
+        ColumnArrays {
+            leaders: [0; 1024],
+            heads: [0; 1024],
+            sizes: [0; 1024],
+            whole: [0; 1024],
+            bits: [0; 1024],
+            opens: [0; 32768],
+        }
+    }
+
+    // The clauses offs with these tags, first as one bucket, led by clause 0, and then with their keys at argument a in the buckets of these.
+    pub fn fill<'a>(
+        &'a mut self,
+        program: &Program,
+        offs: &'a [u32],
+        tags: &'a [u8],
+        a: u32,
+    ) -> (Clauses<'a>, Columns<'a>)
+        requires all_known { AllKnown program.now.starts.now offs.now }
+        requires le_a { (1 ≤ a) × (a ≤ program.now.settings.arity) }
+        requires few { (length offs.now ≤ 1024) × (length tags.now ≡ length offs.now) }
+        ensures filled { ColumnsOf (key_of class_of (records_of program.now.code.now) program.now.starts.now) program.now.settings.arity offs.now a result.1.clauses.leaders.now result.1.heads.now result.1.sizes.now result.0.leaders.now result.1.bits.now result.1.clauses.opens.now }
+        ensures of_whole { (result.0.opens.now ≡ result.1.clauses.opens.now) × (result.0.offs.now ≡ offs.now) × (result.0.tags.now ≡ tags.now) }
+        ensures of_columns { (result.1.clauses.offs.now ≡ offs.now) × (result.1.clauses.tags.now ≡ tags.now) }
+    {
+        let n = offs.len();
+        let ColumnArrays {
+            leaders,
+            heads,
+            sizes,
+            whole,
+            bits,
+            opens,
+        } = self;
+        let leaders = &mut leaders[..n];
+        let heads = &mut heads[..n];
+        let sizes = &mut sizes[..n];
+        let whole = &mut whole[..n];
+        let bits = &mut bits[..n];
+        let opens = &mut opens[..32 * n];
+        fill_columns(program, offs, a, leaders, heads, sizes, whole, bits, opens);
+        let whole = Clauses {
+            leaders: whole,
+            opens,
+            offs,
+            tags,
+        };
+        let columns = Columns {
+            clauses: Clauses {
+                leaders,
+                opens: whole.opens,
+                offs,
+                tags,
+            },
+            heads,
+            bits,
+            sizes,
+        };
+        (whole, columns)
+    }
 }
 
 // The offsets and tags of the m offset records from place q on.
@@ -287,12 +289,10 @@ pub fn read_choices(index: &[u8], q: usize, m: usize, offs: &mut [u32], tags: &m
     ensures offs_after { offs.new ≡ words_of (slice q (q + m) (records_of index.now)) }
     ensures tags_after { tags.new ≡ subs_of (slice q (q + m) (records_of index.now)) }
 {
-    let mut i = 0;
-    while i < m {
+    for i in 0..m {
         let r = records::get(index, q + i);
         offs[i] = r.word;
         tags[i] = r.sub;
-        i += 1;
     }
 }
 
@@ -302,11 +302,8 @@ pub fn start_offsets(starts: &[u32], offs: &mut [u32])
     requires numbers_below { NumbersBelow 32768 starts.now }
     ensures { offs.new ≡ offsets_of starts.now }
 {
-    let n = starts.len();
-    let mut i = 0;
-    while i < n {
+    for i in 0..starts.len() {
         offs[i] = starts[i] + 1;
-        i += 1;
     }
 }
 
@@ -318,10 +315,5 @@ pub fn start_choices(starts: &[u32], offs: &mut [u32], tags: &mut [u8])
     ensures tags_after { tags.new ≡ replicate (length starts.now) 7 }
 {
     start_offsets(starts, offs);
-    let n = starts.len();
-    let mut i = 0;
-    while i < n {
-        tags[i] = 7;
-        i += 1;
-    }
+    tags.fill(Tag::Z as u8);
 }

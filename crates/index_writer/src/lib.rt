@@ -3,7 +3,12 @@
 
 pub mod buckets;
 pub mod choices;
+pub mod clauses;
 pub mod columns;
+pub mod counting;
+pub mod keys;
 pub mod later_tables;
 pub mod lines;
 pub mod rooms;
+pub mod switched;
+pub mod tags;

@@ -10,7 +10,7 @@ use lib.Dec.{eqb}
 use lib.ListN.{length, length-map}
 use Rattle.records.specs.Records.{records_of}
 use Rattle.indexing_iter.specs.declared.Settings.{Settings}
-use Rattle.indexing_iter.specs.declared.Checked.TheVariants.{Passed}
+use Rattle.indexing_iter.specs.Refusals.{passed}
 use Rattle.indexing_iter.specs.Keys.{is_open}
 use Rattle.indexing_iter.specs.Clauses.{key_of, offsets_of}
 use Rattle.indexing_iter.specs.Checks.{check_build}
@@ -68,7 +68,7 @@ module _ (P : Program) (c : ℕ) (os : List ℕ) where
   built-length = omega arith
 
 -- number 8: in code that passed the builder's checks every clause has a key at c
-pub keyed-by-checks : (cls : ℕ → ℕ) (code starts : List ℕ) (S : Settings) (c : ℕ) → check_build cls S.arity c code starts ≡ Passed
+pub keyed-by-checks : (cls : ℕ → ℕ) (code starts : List ℕ) (S : Settings) (c : ℕ) → check_build cls S.arity c code starts ≡ passed
     → open_at (program_of cls S (records_of code) starts) c (offsets_of starts) ≡ []
 keyed-by-checks cls code starts S c passed =
     keep-none (λ o. is_open (key_of cls (records_of code) starts o c)) 0 (offsets_of starts)

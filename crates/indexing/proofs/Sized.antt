@@ -8,8 +8,9 @@ use native.Mathlib.Omega.{arith}
 use borrow.Author.Tests.{ltb-true, ltb-false}
 use lib.Dec.{ltb}
 use Rattle.indexing_iter.specs.declared.Settings.{Settings}
-use Rattle.indexing_iter.specs.declared.Checked.{Checked}
-use Rattle.indexing_iter.specs.declared.Checked.TheVariants.{Passed, Refused}
+use Rattle.indexing_iter.specs.declared.refusal.Refusal.TheVariants.{NoRoom}
+use Rattle.indexing_iter.specs.Refusals.{Checked}
+use Rattle.std.specs.Prelude.{Ok, Err}
 use Rattle.indexing_iter.specs.Checks.{otherwise, refuse, check_build}
 use Rattle.indexing_iter.proofs.Numbers.{Within, build-number}
 use Rattle.indexing.specs.Lines.{Index, size}
@@ -17,18 +18,18 @@ use Rattle.indexing.specs.Builder.{capacity_of, built_by, index_of, build_call, 
 use Rattle.indexing.specs.Sized.{Tells, SizeTells}
 
 by-checks : (a : Checked) → Within 1 8 a → (S : Settings) (idx : Index) (b : List ℕ) (t : Bool) → ltb (capacity_of b) (size idx) ≡ t
-    → Tells (built_by (otherwise a (refuse t 9)) S idx b) (capacity_of b) (sized_by a idx)
-by-checks Passed p S idx b true e = record {
+    → Tells (built_by (otherwise a (refuse t NoRoom)) S idx b) (capacity_of b) (sized_by a idx)
+by-checks (Ok u) p S idx b true e = record {
   lacked = λ q. (refl, ltb-true (capacity_of b) (size idx) e);
   lacks = λ q h. refl;
   same = λ q. absurd (q refl);
 }
-by-checks Passed p S idx b false e = record {
+by-checks (Ok u) p S idx b false e = record {
   lacked = λ q. absurd (omega arith);
   lacks = λ q h. absurd (omega (arith, ltb-false (capacity_of b) (size idx) e));
   same = λ q. (refl, refl);
 }
-by-checks (Refused n) p S idx b t e = record {
+by-checks (Err n) p S idx b t e = record {
   lacked = λ q. absurd (omega (arith, p));
   lacks = λ q h. absurd (omega (arith, p));
   same = λ q. (refl, refl);

@@ -4,8 +4,9 @@
 use Rattle.std.specs.Prelude.{ℕ, ◌*◌, ◌/◌, min, Bool, cond, List, ◌++◌, ltb, length, drop}
 use Rattle.records.specs.Records.{records_of, encode}
 use Rattle.indexing_iter.specs.declared.Settings.{Settings}
-use Rattle.indexing_iter.specs.declared.Checked.{Checked}
-use Rattle.indexing_iter.specs.declared.Checked.TheVariants.{Passed, Refused}
+use Rattle.indexing_iter.specs.declared.refusal.Refusal.TheVariants.{NoRoom}
+use Rattle.indexing_iter.specs.Refusals.{Checked, refusal_number}
+use Rattle.std.specs.Prelude.{Ok, Err}
 use Rattle.indexing_iter.specs.Clauses.{offsets_of}
 use Rattle.indexing_iter.specs.Checks.{otherwise, refuse, check_build}
 use Rattle.indexing.specs.Lines.{Index, size, records, mode_of}
@@ -28,12 +29,12 @@ stored dynamic idx buffer = encode (records (mode_of dynamic) 0 idx) ++ drop (16
 
 -- 9: built index above capacity
 abbrev pub check_room : List ℕ → Index → Checked
-check_room buffer idx = refuse (ltb (capacity_of buffer) (size idx)) 9
+check_room buffer idx = refuse (ltb (capacity_of buffer) (size idx)) NoRoom
 
 -- a refusal gives its number and zero in every other field, and leaves the buffer
 abbrev pub built_by : Checked → Settings → Index → List ℕ → Built
-built_by (Refused n) S idx buffer = record { number = n; count = 0; variable = 0; index = buffer }
-built_by Passed S idx buffer = record { number = 0; count = size idx; variable = cond S.skip 2 1; index = stored S.dynamic idx buffer }
+built_by (Err e) S idx buffer = record { number = refusal_number e; count = 0; variable = 0; index = buffer }
+built_by (Ok u) S idx buffer = record { number = 0; count = size idx; variable = cond S.skip 2 1; index = stored S.dynamic idx buffer }
 
 -- section 3: the index of the code's clauses
 unfoldable pub index_of : (ℕ → ℕ) → List ℕ → List ℕ → Settings → ℕ → Index
@@ -51,8 +52,8 @@ pub record Sized : Type 0 where
 
 -- a refusal gives its number and no count
 abbrev pub sized_by : Checked → Index → Sized
-sized_by (Refused n) idx = record { number = n; count = 0 }
-sized_by Passed idx = record { number = 0; count = size idx }
+sized_by (Err e) idx = record { number = refusal_number e; count = 0 }
+sized_by (Ok u) idx = record { number = 0; count = size idx }
 
 -- the builder's checks, and the size of the index that it would write
 unfoldable pub size_call : (ℕ → ℕ) → List ℕ → List ℕ → Settings → ℕ → Sized

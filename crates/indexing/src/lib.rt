@@ -4,6 +4,7 @@
 #![tactic(auto)]
 
 pub mod key_buckets;
+pub mod kinds;
 
 ghost use Rattle.std.specs.Prelude.{◌≡◌, ◌≤◌};
 ghost use Rattle.indexing.specs.Lines.{mode_of};

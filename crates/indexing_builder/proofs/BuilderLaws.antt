@@ -17,13 +17,14 @@ use Rattle.records.proofs.Grown.{written-front}
 use Rattle.records.proofs.Whole.{Bytes}
 use Rattle.indexing_iter.specs.declared.OptArgIndexKey.{OptArgIndexKey as Key}
 use Rattle.indexing_iter.specs.declared.Settings.{Settings}
-use Rattle.indexing_iter.specs.declared.Checked.{Checked}
-use Rattle.indexing_iter.specs.declared.Checked.TheVariants.{Passed, Refused}
+use Rattle.indexing_iter.specs.Refusals.{passed}
+use Rattle.std.specs.Prelude.{Result, Ok, Err}
+use Rattle.indexing_iter.specs.declared.refusal.Refusal.{Refusal}
+use Rattle.indexing_iter.specs.declared.refusal.Refusal.TheVariants.{NoRoom}
 use Rattle.indexing_iter.specs.Classes.{class_of}
 use Rattle.indexing_iter.specs.Clauses.{key_of, offsets_of}
-use Rattle.indexing_iter.specs.Checks.{number_of, check_build}
-use Rattle.indexing_builder.specs.declared.BuildAnswer.{BuildAnswer}
-use Rattle.indexing_builder.specs.declared.BuildAnswer.TheVariants.{Done, Refused as Turned}
+use Rattle.indexing_iter.specs.Checks.{check_build}
+use Rattle.indexing_builder.specs.declared.Built.{Built}
 use Rattle.indexing.specs.Lines.{Index, records, mode_of, size}
 use Rattle.indexing.specs.Build.{program_by, build}
 use Rattle.indexing.specs.Columns.{switch_recs, new_lines_recs, seed_recs}
@@ -36,12 +37,12 @@ use Rattle.index_writer.proofs.IndexLaws.{switch-some, seeds_of, switch_of, line
 
 -- ---- answers
 
-pub answer-refused : (capacity size : ℕ) (skip : Bool) → capacity < size → Turned 9 ≡ answer_by capacity size skip
+pub answer-refused : (capacity size : ℕ) (skip : Bool) → capacity < size → Err NoRoom ≡ answer_by capacity size skip
 answer-refused capacity size skip h = rw (lt-ltb capacity size h)
 
-pub answer-done : (capacity size variable : ℕ) (skip : Bool) {size' : ℕ} → size ≡ size' → variable ≡ cond skip 2 1 → size ≤ capacity
-    → Done size variable ≡ answer_by capacity size' skip
-answer-done capacity size variable skip e f h = rw (← e, f, le-ltb capacity size h)
+pub answer-done : (capacity : ℕ) (d : Built) (skip : Bool) {size : ℕ} → d.count ≡ size → d.variable ≡ cond skip 2 1 → d.count ≤ capacity
+    → Ok d ≡ answer_by capacity size skip
+answer-done capacity d skip e f h = rw (← e, ← f, le-ltb capacity d.count h)
 
 -- line 0 has at least two records before its switch is made
 pub seed-some : (zeros opens offs tags : List ℕ) (S : Settings) (c : ℕ) → 2 ≤ length (seed_recs zeros opens offs tags S c)
@@ -67,15 +68,14 @@ drop-over {A} s l k h =
 
 -- ---- a refusal of the checks
 
-pub refused-by : (code starts : List ℕ) (S : Settings) (c : ℕ) (b : List ℕ) (a : Checked) (n m : ℕ) → a ≡ check_build class_of S.arity c code starts
-    → a ≡ Refused n → m ≡ number_of a → built_of (Turned m) b ≡ build_call class_of code starts S c b
+pub refused-by : (code starts : List ℕ) (S : Settings) (c : ℕ) (b : List ℕ) (e : Refusal) → Err e ≡ check_build class_of S.arity c code starts
+    → built_of (Err e) b ≡ build_call class_of code starts S c b
 unfolding build_call
-refused-by code starts S c b a n m e f g =
-    ap (λ (x : ℕ). built_of (Turned x) b) (g ∙ ap number_of f) ∙ rw (← e, f)
+refused-by code starts S c b e f = rw (← f) refl
 
 -- ---- the built index of checked code
 
-module _ (code starts : List ℕ) (S : Settings) (c : ℕ) (passed : check_build class_of S.arity c code starts ≡ Passed) where
+module _ (code starts : List ℕ) (S : Settings) (c : ℕ) (accepted : check_build class_of S.arity c code starts ≡ passed) where
   abbrev K : ℕ → ℕ → Key
   K = key_of class_of (records_of code) starts
 
@@ -108,32 +108,32 @@ module _ (code starts : List ℕ) (S : Settings) (c : ℕ) (passed : check_build
       let taken : take (length seeds) (written R 0 seeds) ≡ seeds =
       ap (take (length seeds)) front ∙ take_at seeds (drop (length seeds) R) (length seeds) refl in
       let rest : drop (size idx) (written R 0 seeds) ≡ drop (size idx) R =
-      ap (drop (size idx)) front ∙ drop-over seeds R (size idx) (omega (arith, size_is code starts S c passed)) in
+      ap (drop (size idx)) front ∙ drop-over seeds R (size idx) (omega (arith, size_is code starts S c accepted)) in
       let e : spliced (written R 0 seeds) 1 (length seeds) switch lines ≡ rs ++ drop (size idx) R =
-      splice-is code starts S c passed (written R 0 seeds) taken ∙ ap (λ (x : List Rec). rs ++ x) rest in
+      splice-is code starts S c accepted (written R 0 seeds) taken ∙ ap (λ (x : List Rec). rs ++ x) rest in
       stored-wrote S.dynamic idx b b' h h' room (wrote-is e w)
 
-  built : (b b' : List ℕ) (r : BuildAnswer) → Bytes b → Bytes b' → Building r S.skip b b' seeds switch lines
+  built : (b b' : List ℕ) (r : Result Built Refusal) → Bytes b → Bytes b' → Building r S.skip b b' seeds switch lines
       → built_of r b' ≡ build_call class_of code starts S c b
   unfolding build_call index_of
   built b b' r h h' w =
-      rw passed (go (ltb (capacity_of b) (size idx)) refl (w.answer ∙ ap (λ (n : ℕ). answer_by (capacity_of b) n S.skip) (size_is code starts S c passed)))
+      rw accepted (go (ltb (capacity_of b) (size idx)) refl (w.answer ∙ ap (λ (n : ℕ). answer_by (capacity_of b) n S.skip) (size_is code starts S c accepted)))
     where
-      go : (t : Bool) → ltb (capacity_of b) (size idx) ≡ t → r ≡ cond t (Turned 9) (Done (size idx) (cond S.skip 2 1))
-          → built_of r b' ≡ built_by (cond t (Refused 9) Passed) S idx b
+      go : (t : Bool) → ltb (capacity_of b) (size idx) ≡ t → r ≡ cond t (Err NoRoom) (Ok (record { count = size idx; variable = cond S.skip 2 1 }))
+          → built_of r b' ≡ built_by (cond t (Err NoRoom) passed) S idx b
       go true q f =
-          ap (λ (x : BuildAnswer). built_of x b') f
-          ∙ ap (λ (y : List ℕ). built_of (Turned 9) y) (subst (λ (x : BuildAnswer). Builds x b b' seeds switch lines) f w.leaves)
+          ap (λ (x : Result Built Refusal). built_of x b') f
+          ∙ ap (λ (y : List ℕ). built_of (Err NoRoom) y) (subst (λ (x : Result Built Refusal). Builds x b b' seeds switch lines) f w.leaves)
       go false q f =
           let room : size idx ≤ length (records_of b) = omega (arith, ltb-false (capacity_of b) (size idx) q, capacity-within b) in
-          ap (λ (x : BuildAnswer). built_of x b') f
-          ∙ ap (λ (y : List ℕ). built_of (Done (size idx) (cond S.skip 2 1)) y)
-          (left b b' room h h' (subst (λ (x : BuildAnswer). Builds x b b' seeds switch lines) f w.leaves))
+          ap (λ (x : Result Built Refusal). built_of x b') f
+          ∙ ap (λ (y : List ℕ). built_of (Ok (record { count = size idx; variable = cond S.skip 2 1 })) y)
+          (left b b' room h h' (subst (λ (x : Result Built Refusal). Builds x b b' seeds switch lines) f w.leaves))
 
   -- the same by the columns
   module _ {os tags leaders heads sizes zeros bits opens : List ℕ} (o : os ≡ offsets_of starts) (t : tags ≡ replicate (length starts) 7)
       (C : ColumnsOf K S.arity os c leaders heads sizes zeros bits opens) where
-    pub built-by : (b b' : List ℕ) (r : BuildAnswer) → Bytes b → Bytes b'
+    pub built-by : (b b' : List ℕ) (r : Result Built Refusal) → Bytes b → Bytes b'
         → Building r S.skip b b' (seed_recs zeros opens os tags S c) (switch_recs leaders heads bits os S.dynamic c 1) (new_lines_recs leaders heads opens os tags S c 1)
         → built_of r b' ≡ build_call class_of code starts S c b
     built-by b b' r h h' w = built b b' r h h' (rw (seeds-are code starts S c o t C, switch-is code starts S c o t C, lines_are code starts S c o t C) at w)

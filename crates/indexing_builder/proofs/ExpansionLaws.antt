@@ -16,8 +16,11 @@ use Rattle.records.proofs.Laws.{wrote-is}
 use Rattle.records.proofs.Whole.{Bytes}
 use Rattle.indexing_iter.specs.declared.OptArgIndexKey.{OptArgIndexKey as Key}
 use Rattle.indexing_iter.specs.declared.Settings.{Settings}
+use Rattle.indexing_iter.specs.Refusals.{passed}
 use Rattle.indexing_iter.specs.Classes.{class_of}
 use Rattle.indexing_iter.specs.Clauses.{key_of}
+use Rattle.indexing_iter.specs.Checks.{check_code}
+use Rattle.std.specs.Prelude.{Option, Some, None}
 use Rattle.indexing_iter.proofs.KeyLaws.{code_ok}
 use Rattle.indexing.specs.Lines.{on_demand, Choice, Index, line_at, offs, table_recs, records, mode_of, size}
 use Rattle.indexing.specs.Build.{Program, program_of}
@@ -25,8 +28,7 @@ use Rattle.indexing.specs.Builder.{capacity_of}
 use Rattle.indexing.specs.Expand.{expand}
 use Rattle.index_writer.specs.Choices.{AllKnown}
 use Rattle.indexing_builder.specs.declared.expansion.OnDemand.{OnDemand}
-use Rattle.indexing_builder.specs.declared.expansion.Expanded.{Expanded}
-use Rattle.indexing_builder.specs.declared.expansion.Expanded.TheVariants.{Stored, NoRoom}
+use Rattle.indexing_builder.specs.declared.expansion.Grown.{Grown}
 use Rattle.indexing.specs.Upto.{any_to}
 use Rattle.indexing.specs.Columns.{open_member, dead_recs, switch_recs, new_lines_recs}
 use Rattle.indexing.specs.Expanding.{tags_of, opens_of, zeros_of, ColumnsOf, block_recs, more_recs, lines_made, more_lines}
@@ -41,14 +43,14 @@ use Rattle.index_writer.proofs.IndexLaws.{known-ranged}
 
 -- ---- answers
 
-pub answer-none : (capacity size lines : ℕ) → capacity < size → NoRoom ≡ answer_for capacity size lines
+pub answer-none : (capacity size lines : ℕ) → capacity < size → None ≡ answer_for capacity size lines
 answer-none capacity size lines h = rw (lt-leb size capacity h)
 
-pub answer-stored : (capacity size lines : ℕ) {size' lines' : ℕ} → size ≡ size' → lines ≡ lines' → size ≤ capacity → Stored size lines ≡ answer_for capacity size' lines'
-answer-stored capacity size lines e f h = rw (← e, ← f, le-leb size capacity h)
+pub answer-stored : (capacity : ℕ) (g : Grown) {size lines : ℕ} → g.count ≡ size → g.lines ≡ lines → g.count ≤ capacity → Some g ≡ answer_for capacity size lines
+answer-stored capacity g e f h = rw (← e, ← f, le-leb g.count capacity h)
 
 -- the same by other names
-pub expansion-as : (t : OnDemand) (b b' : List ℕ) (r : Expanded) {block block' more more' : List Rec} {new new' : ℕ} → block ≡ block' → more ≡ more' → new ≡ new'
+pub expansion-as : (t : OnDemand) (b b' : List ℕ) (r : Option Grown) {block block' more more' : List Rec} {new new' : ℕ} → block ≡ block' → more ≡ more' → new ≡ new'
     → Expansion r t b b' block more new → Expansion r t b b' block' more' new'
 expansion-as t b b' r e f g x = rw (← e, ← f, ← g) x
 
@@ -96,17 +98,21 @@ module _ (S : Settings) {K : ℕ → ℕ → Key} {os : List ℕ} {a : ℕ} {lea
     unfolding more_lines
     dead-lines = rw (any_here, opened)
 
-  -- the whole expansion
-  module _ (tags : List ℕ) (t : OnDemand) (b b' : List ℕ) (r : Expanded) where
-    pub switch-expanded : any_to (open_member zeros opens [] 0 a) (length zeros) ≡ false
-        → Expansion r t b b' (switch_recs leaders heads bits os S.dynamic a (t.lines - t.line)) (new_lines_recs leaders heads opens os tags S a t.lines)
+  -- the whole expansion, by the same columns under other names
+  module _ {opens' offs : List ℕ} (p : opens' ≡ opens) (q : offs ≡ os) (tags : List ℕ) (t : OnDemand) (b b' : List ℕ) (r : Option Grown) where
+    pub switch-expanded : {tags' : List ℕ} → tags' ≡ tags → any_to (open_member zeros opens' [] 0 a) (length zeros) ≡ false
+        → Expansion r t b b' (switch_recs leaders heads bits offs S.dynamic a (t.lines - t.line)) (new_lines_recs leaders heads opens offs tags' S a t.lines)
         (lines_made leaders heads S.dynamic)
         → Expansion r t b b' (block_recs S K os a (t.lines - t.line)) (more_recs S K os tags a t.lines) (more_lines S K os a)
-    switch-expanded keyed = expansion-as t b b' r (switch-block keyed (t.lines - t.line)) (switch-more keyed tags t.lines) (switch-lines keyed)
+    switch-expanded e keyed x =
+        let k = rw p at keyed in
+        expansion-as t b b' r (switch-block k (t.lines - t.line)) (switch-more k tags t.lines) (switch-lines k) (rw (q, e) at x)
 
-    pub dead-expanded : any_to (open_member zeros opens [] 0 a) (length zeros) ≡ true → Expansion r t b b' (dead_recs zeros opens os a) [] 0
+    pub dead-expanded : any_to (open_member zeros opens' [] 0 a) (length zeros) ≡ true → Expansion r t b b' (dead_recs zeros opens' offs a) [] 0
         → Expansion r t b b' (block_recs S K os a (t.lines - t.line)) (more_recs S K os tags a t.lines) (more_lines S K os a)
-    dead-expanded opened = expansion-as t b b' r (dead-block opened (t.lines - t.line)) (dead-more opened tags t.lines) (dead-lines opened)
+    dead-expanded opened x =
+        let k = rw p at opened in
+        expansion-as t b b' r (dead-block k (t.lines - t.line)) (dead-more k tags t.lines) (dead-lines k) (rw (p, q) at x)
 
 -- ---- what the expansion on the buffer is: section 4's
 
@@ -115,7 +121,8 @@ as_many [] = refl
 as_many (c ∷ cs) = ap suc (as_many cs)
 
 -- in checked code, of the on-demand table t in an index that the buffer b begins with
-module _ {t : OnDemand} {S : Settings} {code starts b os tags : List ℕ} (E : Demanded t S code starts b os tags) where
+module _ {t : OnDemand} {S : Settings} {code starts b os tags : List ℕ} (E : Demanded t S code starts b os tags)
+    (k : check_code class_of S.arity code starts ≡ passed) where
   abbrev K : ℕ → ℕ → Key
   K = key_of class_of (records_of code) starts
 
@@ -142,7 +149,7 @@ module _ {t : OnDemand} {S : Settings} {code starts b os tags : List ℕ} (E : D
   more xs n = more_recs S K xs tags t.arg n
 
   small : S.arity ≤ 32
-  small = (code_ok class_of S.arity code starts E.checked).arity-to
+  small = (code_ok class_of S.arity code starts k).arity-to
 
   here : t.line < length idx
   here = omega (arith, E.own, E.lines_are)
@@ -168,7 +175,6 @@ module _ {t : OnDemand} {S : Settings} {code starts b os tags : List ℕ} (E : D
   -- what the functions that write it ask
   pub expandable : Expandable t S code starts b os tags
   expandable = record {
-    checked = E.checked;
     known = E.known;
     few = E.few;
     tagged = ap length E.tags-are ∙ as_many its ∙ ap length (sym E.offsets);
@@ -185,7 +191,7 @@ module _ {t : OnDemand} {S : Settings} {code starts b os tags : List ℕ} (E : D
   }
 
   ranged : (i : ℕ) → i < length (offs its) → InRange (K (get_or (offs its) i 0) t.arg)
-  ranged = known-ranged code starts S.arity E.checked (offs its) (subst (AllKnown starts) E.offsets E.known) t.arg
+  ranged = known-ranged code starts S.arity k (offs its) (subst (AllKnown starts) E.offsets E.known) t.arg
 
   own-tags : Tagged S its tags
   own-tags = subst (Tagged S its) (sym E.tags-are) (tagged-own S its)
@@ -207,19 +213,19 @@ module _ {t : OnDemand} {S : Settings} {code starts b os tags : List ℕ} (E : D
       ∙ expand-spliced S K idx t.line t.arg t.arg here E.demand small E.first E.last ranged tags own-tags (records_of b)
       (ap (λ (n : ℕ). take n (records_of b)) (sym count-is) ∙ E.records-are)
 
-  pub expansion-is : (b' : List ℕ) (r : Expanded) → Bytes b → Bytes b' → LineExpansion r t S code starts b b' os tags
+  pub expansion-is : (b' : List ℕ) (r : Option Grown) → Bytes b → Bytes b' → LineExpansion r t S code starts b b' os tags
       → expanded_of r b' ≡ expand_call t S code starts b
   unfolding expand_call
   expansion-is b' r h h' x = go (leb (size after) (capacity_of b)) refl (x.answer ∙ answer-is)
     where
-      go : (q : Bool) → leb (size after) (capacity_of b) ≡ q → r ≡ cond q (Stored (size after) (length after)) NoRoom
+      go : (q : Bool) → leb (size after) (capacity_of b) ≡ q → r ≡ cond q (Some (record { count = size after; lines = length after })) None
           → expanded_of r b' ≡ outcome_by S.dynamic (cond q (record { storing = true; index = after }) (record { storing = false; index = idx })) b
       go true q f =
           let room : size after ≤ length (records_of b) = omega (arith, leb-true (size after) (capacity_of b) q, capacity-within b) in
           let w : Wrote b b' (spliced (records_of b) t.at t.count (block os t.lines) (more os t.lines)) =
-          subst (λ (y : Expanded). Expands y b b' t.at t.count (block os t.lines) (more os t.lines)) f x.leaves in
-          ap (λ (y : Expanded). expanded_of y b') f
-          ∙ ap (expanded_of (Stored (size after) (length after))) (stored-wrote S.dynamic after b b' h h' room (wrote-is spliced-is w))
+          subst (λ (y : Option Grown). Expands y b b' t.at t.count (block os t.lines) (more os t.lines)) f x.leaves in
+          ap (λ (y : Option Grown). expanded_of y b') f
+          ∙ ap (expanded_of (Some (record { count = size after; lines = length after }))) (stored-wrote S.dynamic after b b' h h' room (wrote-is spliced-is w))
       go false q f =
-          ap (λ (y : Expanded). expanded_of y b') f
-          ∙ ap (expanded_of NoRoom) (subst (λ (y : Expanded). Expands y b b' t.at t.count (block os t.lines) (more os t.lines)) f x.leaves)
+          ap (λ (y : Option Grown). expanded_of y b') f
+          ∙ ap (expanded_of None) (subst (λ (y : Option Grown). Expands y b b' t.at t.count (block os t.lines) (more os t.lines)) f x.leaves)

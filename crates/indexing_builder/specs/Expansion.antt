@@ -1,27 +1,23 @@
 -- The expansion of an on-demand table on the buffer: what it asks and gives back, as section 4's expansion says it and, for the functions that
 -- write it, by the columns of the line's clauses (document 01, sections 4 and 5). For contracts of inner functions.
 -- Assumes nothing.
-use Rattle.std.specs.Prelude.{ℕ, ◌+◌, ◌-◌, ◌*◌, ◌≤◌, ◌<◌, ◌≡◌, Bool, true, false, cond, List, leb, length, take}
+use Rattle.std.specs.Prelude.{ℕ, ◌+◌, ◌-◌, ◌≤◌, ◌<◌, ◌≡◌, Bool, true, false, cond, List, Option, Some, None, leb, length, take}
 use Rattle.std.proofs.Math.Option.{some}
 use Rattle.records.specs.declared.Rec.{Rec}
 use Rattle.records.specs.Records.{records_of, Wrote}
 use Rattle.records.specs.Moves.{spliced}
 use Rattle.indexing_iter.specs.declared.Settings.{Settings}
-use Rattle.indexing_iter.specs.declared.Checked.TheVariants.{Passed}
 use Rattle.indexing_iter.specs.Classes.{class_of}
 use Rattle.indexing_iter.specs.Clauses.{key_of}
-use Rattle.indexing_iter.specs.Checks.{check_code}
 use Rattle.indexing.specs.Lines.{on_demand, Index, line_at, offs, find, mode_of, records, size}
 use Rattle.indexing.specs.Reading.{parse}
 use Rattle.indexing.specs.Build.{program_of}
 use Rattle.indexing.specs.Expand.{expand, State, attempt}
 use Rattle.indexing.specs.Builder.{capacity_of, stored}
-use Rattle.indexing.specs.Columns.{sizes_to}
 use Rattle.indexing.specs.Expanding.{tags_of, place_of, block_recs, more_recs, more_lines}
 use Rattle.index_writer.specs.Choices.{AllKnown}
 use Rattle.indexing_builder.specs.declared.expansion.OnDemand.{OnDemand}
-use Rattle.indexing_builder.specs.declared.expansion.Expanded.{Expanded}
-use Rattle.indexing_builder.specs.declared.expansion.Expanded.TheVariants.{Stored, NoRoom}
+use Rattle.indexing_builder.specs.declared.expansion.Grown.{Grown}
 
 -- ---- by section 4
 
@@ -32,7 +28,6 @@ index_on t b = parse (take t.count (records_of b))
 -- what the expansion of the table t asks, of checked code: the buffer b begins with the records of an index of t.lines lines, whose line t.line
 -- has an on-demand table for t.arg, at place t.at; os and tags are the offsets and tags of that line, and its clauses are known
 pub record Demanded (t : OnDemand) (S : Settings) (code starts b os tags : List ℕ) : Type 0 where
-  pub checked : check_code class_of S.arity code starts ≡ Passed
   pub records-are : take t.count (records_of b) ≡ records (mode_of S.dynamic) 0 (index_on t b)
   pub capacity-is : t.capacity ≡ capacity_of b
   pub fits : t.count ≤ t.capacity
@@ -55,9 +50,9 @@ pub record Outcome : Type 0 where
   pub index : List ℕ
 
 -- the answer with the buffer at the end
-abbrev pub expanded_of : Expanded → List ℕ → Outcome
-expanded_of (Stored count lines) buffer = record { storing = true; count = count; lines = lines; index = buffer }
-expanded_of NoRoom buffer = record { storing = false; count = 0; lines = 0; index = buffer }
+abbrev pub expanded_of : Option Grown → List ℕ → Outcome
+expanded_of (Some g) buffer = record { storing = true; count = g.count; lines = g.lines; index = buffer }
+expanded_of None buffer = record { storing = false; count = 0; lines = 0; index = buffer }
 
 -- section 5: an expansion that is stored is at the front of the buffer, the bytes beyond it as they were; otherwise the buffer is as it was
 abbrev pub outcome_by : Bool → State → List ℕ → Outcome
@@ -74,13 +69,13 @@ expand_call t S code starts b =
 -- ---- by the columns of the line's clauses: proofs/ExpansionLaws shows that these give the same
 
 -- the answer of an expansion after which the index has so many records and lines
-abbrev pub answer_for : ℕ → ℕ → ℕ → Expanded
-answer_for capacity size lines = cond (leb size capacity) (Stored size lines) NoRoom
+abbrev pub answer_for : ℕ → ℕ → ℕ → Option Grown
+answer_for capacity size lines = cond (leb size capacity) (Some (record { count = size; lines = lines })) None
 
 -- what it leaves of the buffer b: the record at place p of n has given way to the block, and more follows at the end; or all is as it was
-abbrev pub Expands : Expanded → List ℕ → List ℕ → ℕ → ℕ → List Rec → List Rec → Type 0
-Expands (Stored count lines) b b' p n block more = Wrote b b' (spliced (records_of b) p n block more)
-Expands NoRoom b b' p n block more = b' ≡ b
+abbrev pub Expands : Option Grown → List ℕ → List ℕ → ℕ → ℕ → List Rec → List Rec → Type 0
+Expands (Some g) b b' p n block more = Wrote b b' (spliced (records_of b) p n block more)
+Expands None b b' p n block more = b' ≡ b
 
 -- a table for an argument up to the arity, in a line of an index that the buffer b has
 pub record Placed (t : OnDemand) (arity : ℕ) (b : List ℕ) : Type 0 where
@@ -95,26 +90,18 @@ pub record Placed (t : OnDemand) (arity : ℕ) (b : List ℕ) : Type 0 where
 
 -- what the expansion of a line asks: its offsets os are those of at most 1,024 clauses of checked code, with a tag for each
 pub record Expandable (t : OnDemand) (S : Settings) (code starts b os tags : List ℕ) : Type 0 where
-  pub checked : check_code class_of S.arity code starts ≡ Passed
   pub known : AllKnown starts os
   pub few : length os ≤ 1024
   pub tagged : length tags ≡ length os
   pub placed : Placed t S.arity b
 
--- the columns that a switch is written from: of one length, at most 1,024 clauses, with the sizes of the buckets
-pub record SwitchColumns (leaders heads sizes bits opens os tags : List ℕ) : Type 0 where
-  pub counts :
-      (length leaders ≤ 1024) × (length heads ≡ length leaders) × (length bits ≡ length leaders) × (length opens ≡ 32 * length leaders)
-      × (length os ≡ length leaders) × (length tags ≡ length leaders)
-  pub sizes-are : sizes ≡ sizes_to leaders (length leaders)
-
 -- the table t expanded: answer and buffer where the block takes its place, and more follows with so many new lines
-pub record Expansion (r : Expanded) (t : OnDemand) (b b' : List ℕ) (block more : List Rec) (new : ℕ) : Type 0 where
+pub record Expansion (r : Option Grown) (t : OnDemand) (b b' : List ℕ) (block more : List Rec) (new : ℕ) : Type 0 where
   pub answer : r ≡ answer_for t.capacity (t.count + length block + length more - 1) (t.lines + new)
   pub leaves : Expands r b b' t.at t.count block more
 
 -- the table t of the line with offsets os and these tags expanded
-abbrev pub LineExpansion : Expanded → OnDemand → Settings → List ℕ → List ℕ → List ℕ → List ℕ → List ℕ → List ℕ → Type 0
+abbrev pub LineExpansion : Option Grown → OnDemand → Settings → List ℕ → List ℕ → List ℕ → List ℕ → List ℕ → List ℕ → Type 0
 LineExpansion r t S code starts b b' os tags =
     Expansion r t b b' (block_recs S (key_of class_of (records_of code) starts) os t.arg (t.lines - t.line))
     (more_recs S (key_of class_of (records_of code) starts) os tags t.arg t.lines) (more_lines S (key_of class_of (records_of code) starts) os t.arg)

@@ -4,24 +4,30 @@
 
 pub mod expansion;
 
-ghost use Rattle.std.specs.Prelude.{◌≡◌, cond, ◌*◌, ◌≤◌, length};
+ghost use Rattle.std.specs.Prelude.{◌≡◌, cond, ◌≤◌, length};
 ghost use Rattle.records.specs.Records.{records_of};
+ghost use Rattle.indexing_iter.specs.Refusals.{passed};
 ghost use Rattle.indexing_iter.specs.Classes.{class_of};
 ghost use Rattle.indexing_iter.specs.Checks.{check_build};
-ghost use Rattle.indexing.specs.Columns.{switch_recs, new_lines_recs, seed_recs};
+ghost use Rattle.index_writer.specs.Written.{switch_by, seed_by, new_lines_by};
 ghost use Rattle.indexing.specs.Builder.{capacity_of, build_call};
 ghost use Rattle.indexing_builder.specs.Answer.{built_of};
 ghost use Rattle.indexing_builder.specs.Building.{Building};
-ghost use Rattle.indexing_builder.specs.Expansion.{SwitchColumns};
 
 use crate::expansion::OnDemand;
-use indexing_iter::{Checked, Settings, checks};
+use index_writer::clauses::{Clauses, Columns};
+use index_writer::columns::ColumnArrays;
+use index_writer::switched::Switched;
+use index_writer::{buckets, columns, lines, rooms};
+use indexing_iter::program::Program;
+use indexing_iter::refusal::Refusal;
+use indexing_iter::{Settings, checks};
 
-// What the builder answers: the index's record count and the variable offset, or a refusal's number.
-#[derive(Clone, Copy)]
-pub enum BuildAnswer {
-    Done { count: usize, variable: u32 },
-    Refused(u32),
+// The index built: its record count and the variable offset.
+#[derive(Clone, Copy, Debug, PartialEq, Eq)]
+pub struct Built {
+    pub count: usize,
+    pub variable: u32,
 }
 
 // How many records an index in this buffer may have: the buffer's whole records, at most 65,535.
@@ -30,11 +36,7 @@ pub fn capacity(index: &[u8]) -> usize
     ensures value { result ≡ capacity_of index.now }
     ensures upper_bound { (result ≤ length (records_of index.now)) × (result ≤ 65535) }
 {
-    let n = records::capacity(index);
-    if 65535 < n {
-        return 65535;
-    }
-    n
+    records::capacity(index).min(65535)
 }
 
 fn variable_offset(skip: bool) -> u32
@@ -43,131 +45,59 @@ fn variable_offset(skip: bool) -> u32
     if skip { 2 } else { 1 }
 }
 
-// Writes the built index where there is room for it: line 0 as it is before its switch on c is made, then that switch in place of its
-// on-demand record, which is the second one, and the lines from 1 on.
+// Writes the built index where there is room for it: line 0 as it is before its switch is made, then that switch in place of its
+// on-demand record, which is the second one, and the lines from 1 on. Line 0 has the clauses in one bucket.
 fn write_index(
     index: &mut [u8],
-    leaders: &[u32],
-    heads: &[u32],
-    sizes: &[u32],
-    zeros: &[u32],
-    bits: &[u64],
-    opens: &[u8],
-    offs: &[u32],
-    tags: &[u8],
-    settings: Settings,
-    c: u32,
-) -> BuildAnswer
-    requires switch_columns { SwitchColumns leaders.now heads.now sizes.now bits.now opens.now offs.now tags.now }
-    requires zeros_len { length zeros.now ≡ length leaders.now }
-    requires le_c { (1 ≤ c) × (c ≤ settings.arity) × (settings.arity ≤ 32) }
-    ensures { Building result settings.skip index.old index.new (seed_recs zeros.now opens.now offs.now tags.now settings c) (switch_recs leaders.now heads.now bits.now offs.now settings.dynamic c 1) (new_lines_recs leaders.now heads.now opens.now offs.now tags.now settings c 1) }
+    whole: &Clauses,
+    columns: &Columns,
+    switched: Switched,
+) -> Result<Built, Refusal>
+    requires { 1 ≤ switched.arg }
+    ensures { Building result switched.settings.skip index.old index.new (seed_by whole.now switched.settings switched.arg) (switch_by columns.now switched.settings.dynamic switched.arg 1) (new_lines_by columns.now switched.settings switched.arg 1) }
 {
+    let settings = switched.settings;
     let room = capacity(index);
-    let n = index_writer::rooms::seed_room(zeros, opens, settings, c);
-    let k = index_writer::buckets::switch_room(leaders, heads, settings.dynamic) - 1;
-    let size = n
-        + k
-        + index_writer::rooms::new_lines_room(leaders, heads, sizes, opens, settings, c);
-    if room < size {
-        return BuildAnswer::Refused(9);
+    let n = rooms::seed_room(whole, switched);
+    let k = buckets::switch_room(columns, settings.dynamic) - 1;
+    let count = n + k + rooms::new_lines_room(columns, switched);
+    if room < count {
+        return Err(Refusal::NoRoom);
     }
-    index_writer::lines::put_seed(index, zeros, opens, offs, tags, settings, c);
+    lines::put_seed(index, whole, switched);
     let table = OnDemand {
-        arg: c,
+        arg: switched.arg,
         at: 1,
         count: n,
         line: 0,
         lines: 1,
         capacity: room,
     };
-    expansion::write_switch(
-        index, table, k, leaders, heads, sizes, bits, opens, offs, tags, settings,
-    );
-    let variable = variable_offset(settings.skip);
-    BuildAnswer::Done {
-        count: size,
-        variable,
-    }
+    expansion::write_switch(index, table, k, columns, settings);
+    Ok(Built {
+        count,
+        variable: variable_offset(settings.skip),
+    })
 }
 
-// Builds the index of checked code, with columns for as many clauses as there are.
-fn build_line(
-    code: &[u8],
-    starts: &[u32],
-    settings: Settings,
-    c: u32,
-    index: &mut [u8],
-    offs: &mut [u32],
-    tags: &mut [u8],
-    leaders: &mut [u32],
-    heads: &mut [u32],
-    sizes: &mut [u32],
-    zeros: &mut [u32],
-    bits: &mut [u64],
-    opens: &mut [u8],
-) -> BuildAnswer
-    requires starts_value { check_build class_of settings.arity c code.now starts.now ≡ Checked.Passed }
-    requires starts_len_bound { (length starts.now ≤ 1024) × (length offs.old ≡ length starts.now) × (length tags.old ≡ length starts.now) × (length leaders.old ≡ length starts.now) × (length heads.old ≡ length starts.now) }
-    requires sizes_len { (length sizes.old ≡ length starts.now) × (length zeros.old ≡ length starts.now) × (length bits.old ≡ length starts.now) × (length opens.old ≡ 32 * length starts.now) }
-    ensures { built_of result index.new ≡ build_call class_of code.now starts.now settings c index.old }
-{
-    index_writer::columns::start_choices(starts, offs, tags);
-    index_writer::columns::fill_columns(
-        code,
-        starts,
-        settings.arity,
-        offs,
-        c,
-        leaders,
-        heads,
-        sizes,
-        zeros,
-        bits,
-        opens,
-    );
-    write_index(
-        index, leaders, heads, sizes, zeros, bits, opens, offs, tags, settings, c,
-    )
-}
-
-// Builds the index of checked code: of columns for 1,024 clauses it takes as much as there are clauses.
-fn build_checked(
-    code: &[u8],
-    starts: &[u32],
-    settings: Settings,
-    c: u32,
-    index: &mut [u8],
-) -> BuildAnswer
-    requires starts_value { check_build class_of settings.arity c code.now starts.now ≡ Checked.Passed }
-    requires starts_len_bound { length starts.now ≤ 1024 }
-    ensures { built_of result index.new ≡ build_call class_of code.now starts.now settings c index.old }
+// Builds the index of checked code: of arrays for 1,024 clauses it takes as much as there are clauses.
+fn build_checked(program: &Program, c: u32, index: &mut [u8]) -> Result<Built, Refusal>
+    requires { check_build class_of program.now.settings.arity c program.now.code.now program.now.starts.now ≡ passed }
+    ensures { built_of result index.new ≡ build_call class_of program.now.code.now program.now.starts.now program.now.settings c index.old }
 {
     let mut offs = [0u32; 1024];
     let mut tags = [0u8; 1024];
-    let mut leaders = [0u32; 1024];
-    let mut heads = [0u32; 1024];
-    let mut sizes = [0u32; 1024];
-    let mut zeros = [0u32; 1024];
-    let mut bits = [0u64; 1024];
-    let mut opens = [0u8; 32768];
-    let m = starts.len();
-    let rows = 32 * m;
-    build_line(
-        code,
-        starts,
-        settings,
-        c,
-        index,
-        &mut offs[..m],
-        &mut tags[..m],
-        &mut leaders[..m],
-        &mut heads[..m],
-        &mut sizes[..m],
-        &mut zeros[..m],
-        &mut bits[..m],
-        &mut opens[..rows],
-    )
+    let mut arrays = ColumnArrays::new();
+    let m = program.starts.len();
+    let offs = &mut offs[..m];
+    let tags = &mut tags[..m];
+    columns::start_choices(program.starts, offs, tags);
+    let (whole, columns) = arrays.fill(program, offs, tags, c);
+    let switched = Switched {
+        settings: program.settings,
+        arg: c,
+    };
+    write_index(index, &whole, &columns, switched)
 }
 
 // Builds the index of the code's clauses, its first switch on argument c, and returns its record count and the variable offset.
@@ -178,12 +108,14 @@ pub fn compute_indices(
     settings: Settings,
     c: u64,
     index: &mut [u8],
-) -> BuildAnswer
+) -> Result<Built, Refusal>
     ensures { built_of result index.new ≡ build_call class_of code.now starts.now settings c index.old }
 {
-    let checked = checks::check_build(code, starts, settings.arity, c);
-    let Checked::Passed = checked else {
-        return BuildAnswer::Refused(checks::number_of(checked));
+    checks::check_build(code, starts, settings.arity, c)?;
+    let program = Program {
+        code,
+        starts,
+        settings,
     };
-    build_checked(code, starts, settings, c as u32, index)
+    build_checked(&program, c as u32, index)
 }

@@ -16,8 +16,10 @@ use Rattle.records.specs.Records.{records_of, zero_rec}
 use Rattle.records.proofs.Laws.{length-records_of}
 use Rattle.indexing_iter.specs.declared.InstructionArg.{InstructionArg}
 use Rattle.indexing_iter.specs.declared.InstructionArg.TheVariants.{ArgedHead, ArglessHead, NonHead, Prologue}
-use Rattle.indexing_iter.specs.declared.Checked.{Checked}
-use Rattle.indexing_iter.specs.declared.Checked.TheVariants.{Passed, Refused}
+use Rattle.indexing_iter.specs.Refusals.{Checked, passed}
+use Rattle.std.specs.Prelude.{Ok, Err}
+use Rattle.indexing_iter.specs.declared.refusal.Refusal.{Refusal}
+use Rattle.indexing_iter.specs.declared.refusal.Refusal.TheVariants.{Arity, ChosenArgument, CodeSize, Starts, NoBody, KeyRecord, Register, OpenClause}
 use Rattle.indexing_iter.specs.Classes.{arg_of_class, instruction_arg}
 use Rattle.indexing_iter.specs.Keys.{key_in, is_open}
 use Rattle.indexing_iter.specs.Clauses.{end_of, clauses_of, offsets_of, clause_at, key_of, known}
@@ -27,12 +29,6 @@ use Rattle.indexing_iter.proofs.SameKeys.{and_left, and_right, or_left, or_right
 
 pub drop-step : (s : List ℕ) (i : ℕ) → i < length s → drop i s ≡ get_or s i 0 ∷ drop (i + 1) s
 drop-step s i h = rw (add-one i) (drop-cons s i 0 h)
-
-pub end-next : (n : ℕ) (s : List ℕ) (i : ℕ) → i < length s → get_or s i 0 ≡ end_of n (drop i s)
-end-next n s i h = rw (drop-step s i h) refl
-
-pub end-last : (n : ℕ) (s : List ℕ) (i : ℕ) → length s ≤ i → n ≡ end_of n (drop i s)
-end-last n s i h = rw (drop_of_length-le s h) refl
 
 -- two neighbours, and what is left after the first of them
 pub rising_step : (n : ℕ) (s : List ℕ) (i : ℕ) → i + 1 < length s
@@ -60,29 +56,34 @@ body-none cls rs i end h = rw (slice-done rs i end h) refl
 
 -- the records left of a clause, last the register of its key before them
 pub clause_from : (ℕ → ℕ) → ℕ → List Rec → ℕ → Checked
-clause_from cls arity rs last = cond (has_body cls rs) (check_records cls arity rs last) (Refused 5)
+clause_from cls arity rs last = cond (has_body cls rs) (check_records cls arity rs last) (Err NoBody)
 
 -- one record, whether its 6 applies, what it says, whether it or a later one is a body record, and the answer of those after it:
 -- where its 6 or 7 applies and no body record is left, it is 5 that comes first
 abbrev pub clause_step : Bool → InstructionArg → Bool → ℕ → ℕ → (ℕ → Checked) → Checked
-clause_step true a found arity last rest = cond found (Refused 6) (Refused 5)
-clause_step false NonHead found arity last rest = Passed
+clause_step true a found arity last rest = Err (cond found KeyRecord NoBody)
+clause_step false NonHead found arity last rest = passed
 clause_step false Prologue found arity last rest = rest last
 clause_step false ArglessHead found arity last rest = rest last
-clause_step false (ArgedHead reg key) found arity last rest = cond (register_bad arity last reg) (cond found (Refused 7) (Refused 5)) (rest reg)
+clause_step false (ArgedHead reg key) found arity last rest = cond (register_bad arity last reg) (Err (cond found Register NoBody)) (rest reg)
 
-inside : (t more : Bool) (x y z : Checked) → cond more (cond t x y) z ≡ cond t (cond more x z) (cond more y z)
-inside true more x y z = refl
-inside false more x y z = refl
+refused-by : (found : Bool) (e : Refusal) → ◌≡◌ {A = Checked} (cond found (Err e) (Err NoBody)) (Err (cond found e NoBody))
+refused-by true e = refl
+refused-by false e = refl
+
+inside : (t more : Bool) (e : Refusal) (y : Checked)
+    → cond more (cond t (Err e) y) (Err NoBody) ≡ cond t (Err (cond more e NoBody)) (cond more y (Err NoBody))
+inside true more e y = refused-by more e
+inside false more e y = refl
 
 one-pass : (bad : Bool) (a : InstructionArg) (more : Bool) (arity last : ℕ) (rest : ℕ → Checked)
-    → cond (is_body a || more) (cond bad (Refused 6) (register_step a arity last rest)) (Refused 5)
-    ≡ clause_step bad a (is_body a || more) arity last (λ l. cond more (rest l) (Refused 5))
-one-pass true a more arity last rest = refl
+    → cond (is_body a || more) (cond bad (Err KeyRecord) (register_step a arity last rest)) (Err NoBody)
+    ≡ clause_step bad a (is_body a || more) arity last (λ l. cond more (rest l) (Err NoBody))
+one-pass true a more arity last rest = refused-by (is_body a || more) KeyRecord
 one-pass false NonHead more arity last rest = refl
 one-pass false Prologue more arity last rest = refl
 one-pass false ArglessHead more arity last rest = refl
-one-pass false (ArgedHead reg key) more arity last rest = inside (register_bad arity last reg) more (Refused 7) (rest reg) (Refused 5)
+one-pass false (ArgedHead reg key) more arity last rest = inside (register_bad arity last reg) more Register (rest reg)
 
 pub clause-whole : (cls : ℕ → ℕ) (arity : ℕ) (rs : List Rec) → clause_from cls arity rs 0 ≡ check_clause cls arity rs
 unfolding clause_from check_clause
@@ -99,7 +100,7 @@ clause-step cls arity rs i end last r class h k e q =
     rw (slice-step rs i end h k, q, e)
     (one-pass (record_bad (cls first.kind) first) (arg_of_class (cls first.kind) first) (has_body cls rest) arity last (check_records cls arity rest))
 
-pub clause-none : (cls : ℕ → ℕ) (arity : ℕ) (rs : List Rec) (i end last : ℕ) → end ≤ i → clause_from cls arity (slice i end rs) last ≡ Refused 5
+pub clause-none : (cls : ℕ → ℕ) (arity : ℕ) (rs : List Rec) (i end last : ℕ) → end ≤ i → clause_from cls arity (slice i end rs) last ≡ Err NoBody
 unfolding clause_from
 clause-none cls arity rs i end last h = rw (body-none cls rs i end h) refl
 
@@ -127,6 +128,12 @@ rising-drop n [] (suc i) e = e
 rising-drop n (x ∷ s) zero e = e
 rising-drop n (x ∷ s) (suc i) e = rising-drop n s i (rising-tail n x s e)
 
+-- the clause at i starts before it ends
+pub start_below : (n : ℕ) (s : List ℕ) (i : ℕ) → rising_below n s ≡ true → i < length s → get_or s i 0 < end_of n (drop (i + 1) s)
+start_below n s i e h =
+    let rest = rw (drop-step s i h) at (rising-drop n s i e) in
+    rising-head n (get_or s i 0) (drop (i + 1) s) rest
+
 pub end-within : (m n : ℕ) (s : List ℕ) (i end : ℕ) → rising_below m s ≡ true → n ≡ m → end ≡ end_of n (drop i s) → end ≤ m
 end-within m n s i end e p q = rw (q, p) (end_below m (drop i s) (rising-drop m s i e))
 
@@ -142,13 +149,13 @@ clauses-none rs s i h = rw (drop_of_length-le s h) refl
 
 -- ---- what a passed check tells
 
-pub passed-both : (a b : Checked) → otherwise a b ≡ Passed → (a ≡ Passed) × (b ≡ Passed)
-passed-both Passed b e = (refl, e)
-passed-both (Refused n) b e = let z : ◌≡◌ {A = ℕ} 0 1 = cc in absurd (omega arith)
+pub passed-both : (a b : Checked) → otherwise a b ≡ passed → (a ≡ passed) × (b ≡ passed)
+passed-both (Ok u) b e = (refl, e)
+passed-both (Err n) b e = let z : ◌≡◌ {A = ℕ} 0 1 = cc in absurd (omega arith)
 
-passed-test : (met : Bool) (n : ℕ) → refuse met n ≡ Passed → met ≡ false
-passed-test true n e = let z : ◌≡◌ {A = ℕ} 0 1 = cc in absurd (omega arith)
-passed-test false n e = refl
+passed-test : (met : Bool) (e : Refusal) → refuse met e ≡ passed → met ≡ false
+passed-test true x e = let z : ◌≡◌ {A = ℕ} 0 1 = cc in absurd (omega arith)
+passed-test false x e = refl
 
 both_true : (a b : Bool) → (a && b) ≡ true → (a ≡ true) × (b ≡ true)
 both_true a b e = (and_left a b e, and_right a b e)
@@ -156,33 +163,33 @@ both_true a b e = (and_left a b e, and_right a b e)
 none_true : (a b : Bool) → (a || b) ≡ false → (a ≡ false) × (b ≡ false)
 none_true a b e = (or_left a b e, or_right a b e)
 
-pub arity-passed : (arity : ℕ) → check_arity arity ≡ Passed → (1 ≤ arity) × (arity ≤ 32)
+pub arity-passed : (arity : ℕ) → check_arity arity ≡ passed → (1 ≤ arity) × (arity ≤ 32)
 arity-passed arity e =
-    let t = both_true (leb 1 arity) (leb arity 32) (not-false _ (passed-test _ 1 e)) in
+    let t = both_true (leb 1 arity) (leb arity 32) (not-false _ (passed-test _ Arity e)) in
     (leb-true 1 arity t.0, leb-true arity 32 t.1)
 
-pub chosen-passed : (arity c : ℕ) → check_chosen arity c ≡ Passed → (1 ≤ c) × (c ≤ arity)
+pub chosen-passed : (arity c : ℕ) → check_chosen arity c ≡ passed → (1 ≤ c) × (c ≤ arity)
 chosen-passed arity c e =
-    let t = none_true (eqb c 0) (ltb arity c) (passed-test _ 2 e) in
+    let t = none_true (eqb c 0) (ltb arity c) (passed-test _ ChosenArgument e) in
     let z : c ≡ 0 → ⊥ = eqb-false c 0 t.0 in
     (omega arith, ltb-false arity c t.1)
 
-pub size-passed : (code : List ℕ) → check_size code ≡ Passed → (length code ≡ 16 * length (records_of code)) × (length (records_of code) ≤ 32768)
+pub size-passed : (code : List ℕ) → check_size code ≡ passed → (length code ≡ 16 * length (records_of code)) × (length (records_of code) ≤ 32768)
 size-passed code e =
-    let t = none_true (not (eqb (length code % 16) 0)) (ltb 32768 (length code / 16)) (passed-test _ 3 e) in
+    let t = none_true (not (eqb (length code % 16) 0)) (ltb 32768 (length code / 16)) (passed-test _ CodeSize e) in
     let whole : length code % 16 ≡ 0 = eqb-true (length code % 16) 0 (not-false _ t.0) in
     let few : length code / 16 ≤ 32768 = ltb-false 32768 (length code / 16) t.1 in
     (omega (arith, length-records_of code), omega (arith, length-records_of code))
 
 -- 4: how many starts there are, and that they rise
-starts-passed : (n : ℕ) (starts : List ℕ) → check_starts n starts ≡ Passed
+starts-passed : (n : ℕ) (starts : List ℕ) → check_starts n starts ≡ passed
     → (1 ≤ length starts) × (length starts ≤ 1024) × (rising_below n starts ≡ true)
 starts-passed n starts e =
-    let t = both_true (leb 1 (length starts)) (leb (length starts) 1024 && rising_below n starts) (not-false _ (passed-test _ 4 e)) in
+    let t = both_true (leb 1 (length starts)) (leb (length starts) 1024 && rising_below n starts) (not-false _ (passed-test _ Starts e)) in
     let u = both_true (leb (length starts) 1024) (rising_below n starts) t.1 in
     (leb-true 1 (length starts) t.0, leb-true (length starts) 1024 u.0, u.1)
 
-pub rising-passed : (code starts : List ℕ) → check_starts (length code / 16) starts ≡ Passed → rising_below (length (records_of code)) starts ≡ true
+pub rising-passed : (code starts : List ℕ) → check_starts (length code / 16) starts ≡ passed → rising_below (length (records_of code)) starts ≡ true
 rising-passed code starts e = rw (length-records_of code) (starts-passed (length code / 16) starts e).2
 
 -- ---- the clause at a known offset
@@ -248,8 +255,8 @@ known-range n (x ∷ s) o e h = go (eqb (suc x) o) refl h (known-range n s o (ri
 
 module _ (cls : ℕ → ℕ) (arity : ℕ) (code starts : List ℕ) where
   -- numbers 3, 4 and 5 to 7
-  clauses-of-passed : check_clauses_of cls arity code starts ≡ Passed
-      → (check_size code ≡ Passed) × (check_starts (length code / 16) starts ≡ Passed) × (check_clauses cls arity (clauses_of (records_of code) starts) ≡ Passed)
+  clauses-of-passed : check_clauses_of cls arity code starts ≡ passed
+      → (check_size code ≡ passed) × (check_starts (length code / 16) starts ≡ passed) × (check_clauses cls arity (clauses_of (records_of code) starts) ≡ passed)
   unfolding check_clauses_of
   clauses-of-passed e =
       let clauses : Checked = check_clauses cls arity (clauses_of (records_of code) starts) in
@@ -257,39 +264,39 @@ module _ (cls : ℕ → ℕ) (arity : ℕ) (code starts : List ℕ) where
       let u = passed-both (check_starts (length code / 16) starts) clauses t.1 in
       (t.0, u.0, u.1)
 
-  pub clauses-of-rising : check_clauses_of cls arity code starts ≡ Passed → rising_below (length (records_of code)) starts ≡ true
+  pub clauses-of-rising : check_clauses_of cls arity code starts ≡ passed → rising_below (length (records_of code)) starts ≡ true
   clauses-of-rising e = rising-passed code starts (clauses-of-passed e).1
 
   -- ---- checked code: 1 and 3 to 7
-  code-passed : check_code cls arity code starts ≡ Passed → (check_arity arity ≡ Passed) × (check_clauses_of cls arity code starts ≡ Passed)
+  code-passed : check_code cls arity code starts ≡ passed → (check_arity arity ≡ passed) × (check_clauses_of cls arity code starts ≡ passed)
   unfolding check_code
   code-passed e = passed-both (check_arity arity) (check_clauses_of cls arity code starts) e
 
-  pub code-arity : check_code cls arity code starts ≡ Passed → (1 ≤ arity) × (arity ≤ 32)
+  pub code-arity : check_code cls arity code starts ≡ passed → (1 ≤ arity) × (arity ≤ 32)
   code-arity e = arity-passed arity (code-passed e).0
 
-  pub code-size : check_code cls arity code starts ≡ Passed → (length code ≡ 16 * length (records_of code)) × (length (records_of code) ≤ 32768)
+  pub code-size : check_code cls arity code starts ≡ passed → (length code ≡ 16 * length (records_of code)) × (length (records_of code) ≤ 32768)
   code-size e = size-passed code (clauses-of-passed (code-passed e).1).0
 
-  pub code-starts : check_code cls arity code starts ≡ Passed → (1 ≤ length starts) × (length starts ≤ 1024)
+  pub code-starts : check_code cls arity code starts ≡ passed → (1 ≤ length starts) × (length starts ≤ 1024)
   code-starts e = let t = starts-passed (length code / 16) starts (clauses-of-passed (code-passed e).1).1 in (t.0, t.1)
 
-  pub code-rising : check_code cls arity code starts ≡ Passed → rising_below (length (records_of code)) starts ≡ true
+  pub code-rising : check_code cls arity code starts ≡ passed → rising_below (length (records_of code)) starts ≡ true
   code-rising e = clauses-of-rising (code-passed e).1
 
-  pub code-clauses : check_code cls arity code starts ≡ Passed → check_clauses cls arity (clauses_of (records_of code) starts) ≡ Passed
+  pub code-clauses : check_code cls arity code starts ≡ passed → check_clauses cls arity (clauses_of (records_of code) starts) ≡ passed
   code-clauses e = (clauses-of-passed (code-passed e).1).2
 
-  pub code-offset : (o : ℕ) → check_code cls arity code starts ≡ Passed → known starts o ≡ true → (1 ≤ o) × (o ≤ length (records_of code))
+  pub code-offset : (o : ℕ) → check_code cls arity code starts ≡ passed → known starts o ≡ true → (1 ≤ o) × (o ≤ length (records_of code))
   code-offset o e h = known-range (length (records_of code)) starts o (code-rising e) h
 
-  pub code-offsets : check_code cls arity code starts ≡ Passed → Rising 1 (offsets_of starts)
+  pub code-offsets : check_code cls arity code starts ≡ passed → Rising 1 (offsets_of starts)
   code-offsets e = offsets-rising (length (records_of code)) starts (code-rising e)
 
   -- ---- a checked build: 1 to 8
-  build-passed : (c : ℕ) → check_build cls arity c code starts ≡ Passed
-      → (check_arity arity ≡ Passed) × (check_chosen arity c ≡ Passed) × (check_clauses_of cls arity code starts ≡ Passed)
-      × (check_keyed cls c (clauses_of (records_of code) starts) ≡ Passed)
+  build-passed : (c : ℕ) → check_build cls arity c code starts ≡ passed
+      → (check_arity arity ≡ passed) × (check_chosen arity c ≡ passed) × (check_clauses_of cls arity code starts ≡ passed)
+      × (check_keyed cls c (clauses_of (records_of code) starts) ≡ passed)
   unfolding check_build
   build-passed c e =
       let keyed : Checked = check_keyed cls c (clauses_of (records_of code) starts) in
@@ -299,16 +306,16 @@ module _ (cls : ℕ → ℕ) (arity : ℕ) (code starts : List ℕ) where
       let v = passed-both clauses keyed u.1 in
       (t.0, u.0, v.0, v.1)
 
-  pub build-code : (c : ℕ) → check_build cls arity c code starts ≡ Passed → check_code cls arity code starts ≡ Passed
+  pub build-code : (c : ℕ) → check_build cls arity c code starts ≡ passed → check_code cls arity code starts ≡ passed
   unfolding check_code
   build-code c e = let t = build-passed c e in rw t.0 t.2
 
-  pub build-chosen : (c : ℕ) → check_build cls arity c code starts ≡ Passed → (1 ≤ c) × (c ≤ arity)
+  pub build-chosen : (c : ℕ) → check_build cls arity c code starts ≡ passed → (1 ≤ c) × (c ≤ arity)
   build-chosen c e = chosen-passed arity c (build-passed c e).1
 
-  pub build-keyed : (c : ℕ) → check_build cls arity c code starts ≡ Passed → open_somewhere cls c (clauses_of (records_of code) starts) ≡ false
-  build-keyed c e = passed-test _ 8 (build-passed c e).3
+  pub build-keyed : (c : ℕ) → check_build cls arity c code starts ≡ passed → open_somewhere cls c (clauses_of (records_of code) starts) ≡ false
+  build-keyed c e = passed-test _ OpenClause (build-passed c e).3
 
   -- every clause has a key at the chosen argument
-  pub build-key : (c o : ℕ) → check_build cls arity c code starts ≡ Passed → known starts o ≡ true → is_open (key_of cls (records_of code) starts o c) ≡ false
+  pub build-key : (c o : ℕ) → check_build cls arity c code starts ≡ passed → known starts o ≡ true → is_open (key_of cls (records_of code) starts o c) ≡ false
   build-key c o e h = keyed-known cls (records_of code) starts o c (build-keyed c e) h

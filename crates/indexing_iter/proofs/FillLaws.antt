@@ -4,11 +4,10 @@ use mathlib.Core.Logic.{◌≢◌}
 use Prim.Native.Nat.{ℕ, suc, ◌+◌, ◌-◌, ◌≤◌, ◌<◌}
 use mathlib.Core.Bool.{Bool, true, false, cond, ◌||◌, false≢true}
 use mathlib.Core.List.{List, [], ◌∷◌, ◌++◌, map}
-use native.Mathlib.Numerals.{add-one}
 use native.Mathlib.Omega.{arith}
 use lib.Dec.{eqb}
-use lib.ListN.{length, get_or, drop, set, replicate, length-set, length-replicate, length-map, get_or-replicate, replicate-append-replicate}
-use lib.Seq.{slice, set_at, drop_at, drop-cons, append_snoc, set-append_left, get_or-set_same, get_or-set_other, ext_get_or}
+use lib.ListN.{length, get_or, drop, set, replicate, length-set, length-replicate, length-map, get_or-replicate}
+use lib.Seq.{slice, drop_at, set-append_left, get_or-set_same, get_or-set_other, ext_get_or}
 use borrow.Author.Tests.{eqb-true, eqb-false}
 use Rattle.records.specs.declared.Rec.{Rec}
 use Rattle.records.specs.Records.{records_of}
@@ -16,8 +15,7 @@ use Rattle.indexing_iter.specs.declared.OptArgIndexKey.{OptArgIndexKey}
 use Rattle.indexing_iter.specs.declared.OptArgIndexKey.TheVariants.{None}
 use Rattle.indexing_iter.specs.declared.InstructionArg.{InstructionArg}
 use Rattle.indexing_iter.specs.declared.InstructionArg.TheVariants.{ArgedHead, ArglessHead, NonHead, Prologue}
-use Rattle.indexing_iter.specs.declared.Checked.{Checked}
-use Rattle.indexing_iter.specs.declared.Checked.TheVariants.{Passed}
+use Rattle.indexing_iter.specs.Refusals.{Checked, passed}
 use Rattle.indexing_iter.specs.Classes.{instruction_arg}
 use Rattle.indexing_iter.specs.Keys.{bits_of, key_in, key_step}
 use Rattle.indexing_iter.specs.Clauses.{clause_at, known}
@@ -30,22 +28,6 @@ use Rattle.indexing_iter.proofs.KeyLaws.{length-keys, keys-at, StepOk, records-s
 -- the first i numbers of l are cleared
 pub cleared : List ℕ → ℕ → List ℕ
 cleared l i = replicate i 0 ++ drop i l
-
-pub cleared-none : (l : List ℕ) → l ≡ cleared l 0
-unfolding cleared
-cleared-none l = refl
-
-pub cleared_more : (l : List ℕ) (i : ℕ) → i < length l → set (cleared l i) i 0 ≡ cleared l (i + 1)
-unfolding cleared
-cleared_more l i h =
-    ap (λ (x : List ℕ). set (replicate i 0 ++ x) i 0) (drop-cons l i 0 h)
-    ∙ set_at (replicate i 0) (get_or l i 0) (drop (suc i) l) 0 i (length-replicate i 0)
-    ∙ sym (append_snoc (replicate i 0) 0 (drop (suc i) l))
-    ∙ ap₂ (λ (x y : List ℕ). x ++ y) (replicate-append-replicate i 1 0) (ap (λ (k : ℕ). drop k l) (sym (add-one i)))
-
-pub cleared-all : (l : List ℕ) (n : ℕ) → cleared l n ≡ replicate n 0 ++ drop n l
-unfolding cleared
-cleared-all l n = refl
 
 -- ---- filling
 
@@ -83,7 +65,7 @@ module _ (f : OptArgIndexKey → ℕ) (arity : ℕ) where
   length-step (ArgedHead reg key) l more g = g (set l (reg - 1) (f key)) ∙ length-set l (reg - 1) (f key)
 
   low_step : (a : InstructionArg) (last j : ℕ) (l : List ℕ) (rest : ℕ → Checked) (more : List ℕ → List ℕ) → StepOk a arity last rest → j < last
-      → ((n : ℕ) (m : List ℕ) → rest n ≡ Passed → j < n → get_or (more m) j 0 ≡ get_or m j 0) → get_or (fill_step f a l more) j 0 ≡ get_or l j 0
+      → ((n : ℕ) (m : List ℕ) → rest n ≡ passed → j < n → get_or (more m) j 0 ≡ get_or m j 0) → get_or (fill_step f a l more) j 0 ≡ get_or l j 0
   low_step NonHead last j l rest more s h g = refl
   low_step Prologue last j l rest more s h g = g last l s h
   low_step ArglessHead last j l rest more s h g = g last l s h
@@ -94,8 +76,8 @@ module _ (f : OptArgIndexKey → ℕ) (arity : ℕ) where
 
   at-step : (a : InstructionArg) (last j : ℕ) (l : List ℕ) (rest : ℕ → Checked) (more : List ℕ → List ℕ) (k : OptArgIndexKey)
       → StepOk a arity last rest → j < length l → get_or l j 0 ≡ f None
-      → ((n : ℕ) (m : List ℕ) → rest n ≡ Passed → j < n → get_or (more m) j 0 ≡ get_or m j 0)
-      → ((n : ℕ) (m : List ℕ) → rest n ≡ Passed → j < length m → get_or m j 0 ≡ f None → get_or (more m) j 0 ≡ f k)
+      → ((n : ℕ) (m : List ℕ) → rest n ≡ passed → j < n → get_or (more m) j 0 ≡ get_or m j 0)
+      → ((n : ℕ) (m : List ℕ) → rest n ≡ passed → j < length m → get_or m j 0 ≡ f None → get_or (more m) j 0 ≡ f k)
       → get_or (fill_step f a l more) j 0 ≡ f (key_step a (suc j) k)
   at-step NonHead last j l rest more k s h e low g = e
   at-step Prologue last j l rest more k s h e low g = g last l s h e
@@ -114,7 +96,7 @@ module _ (f : OptArgIndexKey → ℕ) (arity : ℕ) where
           g reg m s.4 (omega (arith, length-set l (reg - 1) (f key))) (get_or-set_other l (reg - 1) j (f key) 0 n ∙ e)
 
   append-step : (a : InstructionArg) (last : ℕ) (p d : List ℕ) (rest : ℕ → Checked) (more : List ℕ → List ℕ) → StepOk a arity last rest → arity ≤ length p
-      → ((n : ℕ) (m : List ℕ) → rest n ≡ Passed → arity ≤ length m → more (m ++ d) ≡ more m ++ d)
+      → ((n : ℕ) (m : List ℕ) → rest n ≡ passed → arity ≤ length m → more (m ++ d) ≡ more m ++ d)
       → fill_step f a (p ++ d) more ≡ fill_step f a p more ++ d
   append-step NonHead last p d rest more s h g = refl
   append-step Prologue last p d rest more s h g = g last p s h
@@ -131,14 +113,14 @@ module _ (f : OptArgIndexKey → ℕ) (arity : ℕ) where
     length-fill (r ∷ rs) l = length-step (instruction_arg cls r) l (fill f cls rs) (length-fill rs)
 
     -- arguments at or below the last register stay as they are
-    fill-low : (rs : List Rec) (j last : ℕ) (l : List ℕ) → check_records cls arity rs last ≡ Passed → j < last → get_or (fill f cls rs l) j 0 ≡ get_or l j 0
+    fill-low : (rs : List Rec) (j last : ℕ) (l : List ℕ) → check_records cls arity rs last ≡ passed → j < last → get_or (fill f cls rs l) j 0 ≡ get_or l j 0
     unfolding fill
     fill-low [] j last l e h = refl
     fill-low (r ∷ rs) j last l e h =
         low_step (instruction_arg cls r) last j l (check_records cls arity rs) (fill f cls rs) (records-step cls arity r rs last e) h (fill-low rs j)
 
     -- a cleared place gets the key of its argument
-    fill-at : (rs : List Rec) (j last : ℕ) (l : List ℕ) → check_records cls arity rs last ≡ Passed → j < length l → get_or l j 0 ≡ f None
+    fill-at : (rs : List Rec) (j last : ℕ) (l : List ℕ) → check_records cls arity rs last ≡ passed → j < length l → get_or l j 0 ≡ f None
         → get_or (fill f cls rs l) j 0 ≡ f (key_in cls rs (suc j))
     unfolding fill key_in
     fill-at [] j last l e h q = q
@@ -147,7 +129,7 @@ module _ (f : OptArgIndexKey → ℕ) (arity : ℕ) where
         (fill-low rs j) (fill-at rs j)
 
     -- places past the arity stay as they are
-    fill-append : (rs : List Rec) (d : List ℕ) (last : ℕ) (p : List ℕ) → check_records cls arity rs last ≡ Passed → arity ≤ length p
+    fill-append : (rs : List Rec) (d : List ℕ) (last : ℕ) (p : List ℕ) → check_records cls arity rs last ≡ passed → arity ≤ length p
         → fill f cls rs (p ++ d) ≡ fill f cls rs p ++ d
     unfolding fill
     fill-append [] d last p e h = refl
@@ -155,7 +137,7 @@ module _ (f : OptArgIndexKey → ℕ) (arity : ℕ) where
         append-step (instruction_arg cls r) last p d (check_records cls arity rs) (fill f cls rs) (records-step cls arity r rs last e) h (fill-append rs d)
 
 -- cleared and filled: the keys at the arguments 1 to arity, and the rest as it was
-pub filled : (f : OptArgIndexKey → ℕ) (cls : ℕ → ℕ) (arity : ℕ) (rs : List Rec) (l : List ℕ) → f None ≡ 0 → check_records cls arity rs 0 ≡ Passed
+pub filled : (f : OptArgIndexKey → ℕ) (cls : ℕ → ℕ) (arity : ℕ) (rs : List Rec) (l : List ℕ) → f None ≡ 0 → check_records cls arity rs 0 ≡ passed
     → fill f cls rs (cleared l arity) ≡ map f (keys_in cls rs arity 1) ++ drop arity l
 unfolding cleared
 filled f cls n rs l z e =
@@ -177,7 +159,7 @@ filled f cls n rs l z e =
 -- the records rs are left, and give the answers H and B
 pub record Filling (cls : ℕ → ℕ) (arity : ℕ) (rs : List Rec) (heads bits H B : List ℕ) : Type 0 where
   pub last : ℕ
-  pub passed : check_records cls arity rs last ≡ Passed
+  pub passed : check_records cls arity rs last ≡ passed
   pub heads-room : arity ≤ length heads
   pub bits-room : arity ≤ length bits
   pub heads-give : fill head_of cls rs heads ≡ H
@@ -195,7 +177,7 @@ collected-cleared f cls arity code starts o l l' e =
     ap (λ (d : List ℕ). map f (keys_of cls (records_of code) starts o arity) ++ d)
     (ap (drop arity) e ∙ drop_at (replicate arity 0) (drop arity l) arity (length-replicate arity 0))
 
-module _ (cls : ℕ → ℕ) (arity : ℕ) (code starts : List ℕ) (o n : ℕ) (k : known starts o ≡ true) (e : check_code cls arity code starts ≡ Passed)
+module _ (cls : ℕ → ℕ) (arity : ℕ) (code starts : List ℕ) (o n : ℕ) (k : known starts o ≡ true) (e : check_code cls arity code starts ≡ passed)
     (q : n ≡ length (records_of code)) where
   abbrev clause : List Rec
   clause = clause_at (records_of code) starts o
@@ -206,7 +188,7 @@ module _ (cls : ℕ → ℕ) (arity : ℕ) (code starts : List ℕ) (o n : ℕ) 
   on : slice (o - 1) n (records_of code) ≡ clause ++ drop is.end (records_of code)
   on = ap (λ (m : ℕ). slice (o - 1) m (records_of code)) q ∙ clause-on cls arity (records_of code) o clause is
 
-  passed_on : check_records cls arity (slice (o - 1) n (records_of code)) 0 ≡ Passed
+  passed_on : check_records cls arity (slice (o - 1) n (records_of code)) 0 ≡ passed
   passed_on =
       ap (λ (l : List Rec). check_records cls arity l 0) on
       ∙ check-records-append cls arity clause (drop is.end (records_of code)) is.body 0 ∙ is.passed

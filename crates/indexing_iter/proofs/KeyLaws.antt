@@ -16,8 +16,10 @@ use Rattle.indexing_iter.specs.declared.OptArgIndexKey.{OptArgIndexKey}
 use Rattle.indexing_iter.specs.declared.OptArgIndexKey.TheVariants.{Literal, Structure, List as ListKey}
 use Rattle.indexing_iter.specs.declared.InstructionArg.{InstructionArg}
 use Rattle.indexing_iter.specs.declared.InstructionArg.TheVariants.{ArgedHead, ArglessHead, NonHead, Prologue}
-use Rattle.indexing_iter.specs.declared.Checked.{Checked}
-use Rattle.indexing_iter.specs.declared.Checked.TheVariants.{Passed, Refused}
+use Rattle.indexing_iter.specs.Refusals.{Checked, passed}
+use Rattle.std.specs.Prelude.{Ok, Err}
+use Rattle.indexing_iter.specs.declared.refusal.Refusal.{Refusal}
+use Rattle.indexing_iter.specs.declared.refusal.Refusal.TheVariants.{NoBody, KeyRecord, Register}
 use Rattle.indexing_iter.specs.Classes.{instruction_arg, arg_of_class, key_of_class, is_keyed, is_shallow_temp}
 use Rattle.indexing_iter.specs.Keys.{key_in, key_step}
 use Rattle.indexing_iter.specs.Clauses.{end_of, clauses_of, clause_at, key_of, known}
@@ -72,38 +74,38 @@ register-step-append : (a : InstructionArg) (rest : Bool) (arity last : ℕ) (f 
 register-step-append NonHead rest arity last f g e h = refl
 register-step-append Prologue rest arity last f g e h = h e last
 register-step-append ArglessHead rest arity last f g e h = h e last
-register-step-append (ArgedHead reg key) rest arity last f g e h = ap (cond (register_bad arity last reg) (Refused 7)) (h e reg)
+register-step-append (ArgedHead reg key) rest arity last f g e h = ap (cond (register_bad arity last reg) (Err Register)) (h e reg)
 
 pub check-records-append : (cls : ℕ → ℕ) (arity : ℕ) (rs more : List Rec) → has_body cls rs ≡ true
     → (last : ℕ) → check_records cls arity (rs ++ more) last ≡ check_records cls arity rs last
 unfolding check_records has_body
 check-records-append cls arity [] more e last = absurd (false≢true e)
 check-records-append cls arity (r ∷ rs) more e last =
-    ap (cond (record_bad (cls r.kind) r) (Refused 6))
+    ap (cond (record_bad (cls r.kind) r) (Err KeyRecord))
     (register-step-append (instruction_arg cls r) (has_body cls rs) arity last (check_records cls arity (rs ++ more)) (check_records cls arity rs) e
     (check-records-append cls arity rs more))
 
 -- ---- what a check that passed says
 
 abbrev is_passed : Checked → Type 0
-is_passed Passed = Unit {0}
-is_passed (Refused n) = ⊥
+is_passed (Ok u) = Unit {0}
+is_passed (Err n) = ⊥
 
-pub refused-not : (n : ℕ) → Refused n ≡ Passed → ⊥
+pub refused-not : (n : Refusal) → Err n ≡ passed → ⊥
 refused-not n e = subst is_passed (sym e) tt
 
-pub or-else-first : (a b : Checked) → otherwise a b ≡ Passed → a ≡ Passed
+pub or-else-first : (a b : Checked) → otherwise a b ≡ passed → a ≡ passed
 or-else-first a b e = (passed-both a b e).0
 
-pub or-else-next : (a b : Checked) → otherwise a b ≡ Passed → b ≡ Passed
+pub or-else-next : (a b : Checked) → otherwise a b ≡ passed → b ≡ passed
 or-else-next a b e = (passed-both a b e).1
 
 -- the test of a refusal that was not made
-pub not-refused : (t : Bool) (n : ℕ) (x : Checked) → cond t (Refused n) x ≡ Passed → (t ≡ false) × (x ≡ Passed)
+pub not-refused : (t : Bool) (n : Refusal) (x : Checked) → cond t (Err n) x ≡ passed → (t ≡ false) × (x ≡ passed)
 not-refused true n x e = absurd (refused-not n e)
 not-refused false n x e = (refl, e)
 
-pub then-passed : (t : Bool) (n : ℕ) (x : Checked) → cond t x (Refused n) ≡ Passed → (t ≡ true) × (x ≡ Passed)
+pub then-passed : (t : Bool) (n : Refusal) (x : Checked) → cond t x (Err n) ≡ passed → (t ≡ true) × (x ≡ passed)
 then-passed true n x e = (refl, e)
 then-passed false n x e = absurd (refused-not n e)
 
@@ -115,9 +117,9 @@ pub record CodeOk (cls : ℕ → ℕ) (arity : ℕ) (rs : List Rec) (starts : Li
   pub some : 1 ≤ length starts
   pub few : length starts ≤ 1024
   pub rising : rising_below (length rs) starts ≡ true
-  pub clauses : check_clauses cls arity (clauses_of rs starts) ≡ Passed
+  pub clauses : check_clauses cls arity (clauses_of rs starts) ≡ passed
 
-pub code_ok : (cls : ℕ → ℕ) (arity : ℕ) (code starts : List ℕ) → check_code cls arity code starts ≡ Passed → CodeOk cls arity (records_of code) starts
+pub code_ok : (cls : ℕ → ℕ) (arity : ℕ) (code starts : List ℕ) → check_code cls arity code starts ≡ passed → CodeOk cls arity (records_of code) starts
 code_ok cls arity code starts e =
     let a = code-arity cls arity code starts e in
     let n = code-starts cls arity code starts e in
@@ -141,11 +143,11 @@ pub record ClauseOk (cls : ℕ → ℕ) (arity : ℕ) (rs : List Rec) (o : ℕ) 
   pub within : end ≤ length rs
   pub run : clause ≡ slice (o - 1) end rs
   pub body : has_body cls clause ≡ true
-  pub passed : check_records cls arity clause 0 ≡ Passed
+  pub passed : check_records cls arity clause 0 ≡ passed
 
 module _ (cls : ℕ → ℕ) (arity : ℕ) (rs : List Rec) where
   first-clause : (s : ℕ) (ss : List ℕ) (o : ℕ) → suc s ≡ o → rising_below (length rs) (s ∷ ss) ≡ true
-      → check_clause cls arity (slice s (end_of (length rs) ss) rs) ≡ Passed → ClauseOk cls arity rs o (slice s (end_of (length rs) ss) rs)
+      → check_clause cls arity (slice s (end_of (length rs) ss) rs) ≡ passed → ClauseOk cls arity rs o (slice s (end_of (length rs) ss) rs)
   unfolding check_clause
   first-clause s ss o q e f =
       let c : List Rec = slice s (end_of (length rs) ss) rs in
@@ -156,8 +158,8 @@ module _ (cls : ℕ → ℕ) (arity : ℕ) (rs : List Rec) where
         start = omega (arith, rising-head (length rs) s ss e);
         within = end_below (length rs) ss (rising-tail (length rs) s ss e);
         run = rw p refl;
-        body = (then-passed (has_body cls c) 5 (check_records cls arity c 0) f).0;
-        passed = (then-passed (has_body cls c) 5 (check_records cls arity c 0) f).1;
+        body = (then-passed (has_body cls c) NoBody (check_records cls arity c 0) f).0;
+        passed = (then-passed (has_body cls c) NoBody (check_records cls arity c 0) f).1;
       }
 
   this-or-later : (t : Bool) (o : ℕ) (first later : List Rec) (rest : Bool) → (t || rest) ≡ true → (t ≡ true → ClauseOk cls arity rs o first)
@@ -165,7 +167,7 @@ module _ (cls : ℕ → ℕ) (arity : ℕ) (rs : List Rec) where
   this-or-later true o first later rest k f g = f refl
   this-or-later false o first later rest k f g = g k
 
-  pub known-clause : (starts : List ℕ) (o : ℕ) → rising_below (length rs) starts ≡ true → check_clauses cls arity (clauses_of rs starts) ≡ Passed
+  pub known-clause : (starts : List ℕ) (o : ℕ) → rising_below (length rs) starts ≡ true → check_clauses cls arity (clauses_of rs starts) ≡ passed
       → known starts o ≡ true → ClauseOk cls arity rs o (clause_at rs starts o)
   unfolding known clause_at clauses_of check_clauses
   known-clause [] o e f k = absurd (false≢true k)
@@ -177,20 +179,20 @@ module _ (cls : ℕ → ℕ) (arity : ℕ) (rs : List Rec) where
       (known-clause ss o (rising-tail (length rs) s ss e) (or-else-next (check_clause cls arity c) later f))
 
 -- the clause at a known offset of checked code
-pub clause-ok : (cls : ℕ → ℕ) (arity : ℕ) (code starts : List ℕ) (o : ℕ) → known starts o ≡ true → check_code cls arity code starts ≡ Passed
+pub clause-ok : (cls : ℕ → ℕ) (arity : ℕ) (code starts : List ℕ) (o : ℕ) → known starts o ≡ true → check_code cls arity code starts ≡ passed
     → ClauseOk cls arity (records_of code) o (clause_at (records_of code) starts o)
 clause-ok cls arity code starts o k e =
     let h : CodeOk cls arity (records_of code) starts = code_ok cls arity code starts e in
     known-clause cls arity (records_of code) starts o h.rising h.clauses k
 
 -- a known offset lies within the code
-pub known-within : (cls : ℕ → ℕ) (arity : ℕ) (code starts : List ℕ) (o : ℕ) → known starts o ≡ true → check_code cls arity code starts ≡ Passed
+pub known-within : (cls : ℕ → ℕ) (arity : ℕ) (code starts : List ℕ) (o : ℕ) → known starts o ≡ true → check_code cls arity code starts ≡ passed
     → (1 ≤ o) × (o - 1 < length (records_of code))
 known-within cls arity code starts o k e =
     let c : ClauseOk cls arity (records_of code) o (clause_at (records_of code) starts o) = clause-ok cls arity code starts o k e in
     (c.from, omega (arith, c.start, c.within))
 
-pub known_small : (cls : ℕ → ℕ) (arity : ℕ) (code starts : List ℕ) (o : ℕ) → known starts o ≡ true → check_code cls arity code starts ≡ Passed
+pub known_small : (cls : ℕ → ℕ) (arity : ℕ) (code starts : List ℕ) (o : ℕ) → known starts o ≡ true → check_code cls arity code starts ≡ passed
     → o ≤ 32768
 known_small cls arity code starts o k e =
     omega (arith, known-within cls arity code starts o k e, (code_ok cls arity code starts e).size)
@@ -210,7 +212,7 @@ clause-on cls arity rs o clause c =
     let h : o - 1 ≤ c.end = omega (arith, c.start) in
     slice-on (o - 1) c.end rs h c.within ∙ ap (λ (l : List Rec). l ++ drop c.end rs) (sym c.run)
 
-pub key-on : (cls : ℕ → ℕ) (arity : ℕ) (code starts : List ℕ) (o j : ℕ) → known starts o ≡ true → check_code cls arity code starts ≡ Passed
+pub key-on : (cls : ℕ → ℕ) (arity : ℕ) (code starts : List ℕ) (o j : ℕ) → known starts o ≡ true → check_code cls arity code starts ≡ passed
     → key_in cls (slice (o - 1) (length (records_of code)) (records_of code)) j ≡ key_of cls (records_of code) starts o j
 unfolding key_of
 key-on cls arity code starts o j k e =
@@ -256,30 +258,30 @@ arg-in-range class r e =
 -- what 6 and 7 say of one record, and of the records after it, whose answer is rest at the last register
 abbrev pub StepOk : InstructionArg → ℕ → ℕ → (ℕ → Checked) → Type 0
 StepOk NonHead arity last rest = Unit {0}
-StepOk Prologue arity last rest = rest last ≡ Passed
-StepOk ArglessHead arity last rest = rest last ≡ Passed
-StepOk (ArgedHead reg key) arity last rest = KeyInRange key × (1 ≤ reg) × (last < reg) × (reg ≤ arity) × (rest reg ≡ Passed)
+StepOk Prologue arity last rest = rest last ≡ passed
+StepOk ArglessHead arity last rest = rest last ≡ passed
+StepOk (ArgedHead reg key) arity last rest = KeyInRange key × (1 ≤ reg) × (last < reg) × (reg ≤ arity) × (rest reg ≡ passed)
 
-step_ok : (a : InstructionArg) (arity last : ℕ) (rest : ℕ → Checked) → ArgInRange a → register_step a arity last rest ≡ Passed → StepOk a arity last rest
+step_ok : (a : InstructionArg) (arity last : ℕ) (rest : ℕ → Checked) → ArgInRange a → register_step a arity last rest ≡ passed → StepOk a arity last rest
 step_ok NonHead arity last rest h e = tt
 step_ok Prologue arity last rest h e = e
 step_ok ArglessHead arity last rest h e = e
 step_ok (ArgedHead reg key) arity last rest h e =
-    let p : (register_bad arity last reg ≡ false) × (rest reg ≡ Passed) = not-refused (register_bad arity last reg) 7 (rest reg) e in
+    let p : (register_bad arity last reg ≡ false) × (rest reg ≡ passed) = not-refused (register_bad arity last reg) Register (rest reg) e in
     let z : eqb reg 0 ≡ false = or_left (eqb reg 0) (ltb arity reg || leb reg last) p.0 in
     let q : (ltb arity reg || leb reg last) ≡ false = or_right (eqb reg 0) (ltb arity reg || leb reg last) p.0 in
     let l : last < reg = leb-false reg last (or_right (ltb arity reg) (leb reg last) q) in
     (h, omega arith, l, ltb-false arity reg (or_left (ltb arity reg) (leb reg last) q), p.1)
 
-pub records-step : (cls : ℕ → ℕ) (arity : ℕ) (r : Rec) (rs : List Rec) (last : ℕ) → check_records cls arity (r ∷ rs) last ≡ Passed
+pub records-step : (cls : ℕ → ℕ) (arity : ℕ) (r : Rec) (rs : List Rec) (last : ℕ) → check_records cls arity (r ∷ rs) last ≡ passed
     → StepOk (instruction_arg cls r) arity last (check_records cls arity rs)
 unfolding check_records
 records-step cls arity r rs last e =
-    let p = not-refused (record_bad (cls r.kind) r) 6 (register_step (instruction_arg cls r) arity last (check_records cls arity rs)) e in
+    let p = not-refused (record_bad (cls r.kind) r) KeyRecord (register_step (instruction_arg cls r) arity last (check_records cls arity rs)) e in
     step_ok (instruction_arg cls r) arity last (check_records cls arity rs) (arg-in-range (cls r.kind) r p.0) p.1
 
 key-step-range : (a : InstructionArg) (arity last j : ℕ) (rest : ℕ → Checked) (k : OptArgIndexKey) → StepOk a arity last rest
-    → ((n : ℕ) → rest n ≡ Passed → KeyInRange k) → KeyInRange (key_step a j k)
+    → ((n : ℕ) → rest n ≡ passed → KeyInRange k) → KeyInRange (key_step a j k)
 key-step-range NonHead arity last j rest k h f = tt
 key-step-range Prologue arity last j rest k h f = f last h
 key-step-range ArglessHead arity last j rest k h f = f last h
@@ -289,14 +291,14 @@ key-step-range (ArgedHead reg key) arity last j rest k h f = go (eqb reg j)
     go true = h.0
     go false = f reg h.4
 
-pub key-in-range : (cls : ℕ → ℕ) (arity : ℕ) (rs : List Rec) (j last : ℕ) → check_records cls arity rs last ≡ Passed → KeyInRange (key_in cls rs j)
+pub key-in-range : (cls : ℕ → ℕ) (arity : ℕ) (rs : List Rec) (j last : ℕ) → check_records cls arity rs last ≡ passed → KeyInRange (key_in cls rs j)
 unfolding key_in
 key-in-range cls arity [] j last e = tt
 key-in-range cls arity (r ∷ rs) j last e =
     key-step-range (instruction_arg cls r) arity last j (check_records cls arity rs) (key_in cls rs j) (records-step cls arity r rs last e)
     (key-in-range cls arity rs j)
 
-pub key-of-range : (cls : ℕ → ℕ) (arity : ℕ) (code starts : List ℕ) (o j : ℕ) → known starts o ≡ true → check_code cls arity code starts ≡ Passed
+pub key-of-range : (cls : ℕ → ℕ) (arity : ℕ) (code starts : List ℕ) (o j : ℕ) → known starts o ≡ true → check_code cls arity code starts ≡ passed
     → KeyInRange (key_of cls (records_of code) starts o j)
 unfolding key_of
 key-of-range cls arity code starts o j k e =

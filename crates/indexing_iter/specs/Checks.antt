@@ -1,41 +1,37 @@
 -- Refusals 1 to 8 (document 01, "What each call gives back"): the first number that applies.
 -- Assumes nothing.
-use Rattle.std.specs.Prelude.{ℕ, ◌%◌, ◌/◌, Bool, true, false, cond, not, ◌&&◌, ◌||◌, List, [], ◌∷◌, eqb, leb, ltb, length}
+use Rattle.std.specs.Prelude.{ℕ, ◌%◌, ◌/◌, Bool, true, false, cond, not, ◌&&◌, ◌||◌, List, [], ◌∷◌, eqb, leb, ltb, length, Ok, Err}
 use Rattle.records.specs.declared.Rec.{Rec}
 use Rattle.records.specs.Records.{records_of}
 use Rattle.indexing_iter.specs.declared.InstructionArg.{InstructionArg}
 use Rattle.indexing_iter.specs.declared.InstructionArg.TheVariants.{ArgedHead, ArglessHead, NonHead, Prologue}
-use Rattle.indexing_iter.specs.declared.Checked.{Checked}
-use Rattle.indexing_iter.specs.declared.Checked.TheVariants.{Passed, Refused}
+use Rattle.indexing_iter.specs.declared.refusal.Refusal.{Refusal}
+use Rattle.indexing_iter.specs.declared.refusal.Refusal.TheVariants.{Arity, ChosenArgument, CodeSize, Starts, NoBody, KeyRecord, Register, OpenClause}
+use Rattle.indexing_iter.specs.Refusals.{Checked, passed}
 use Rattle.indexing_iter.specs.Classes.{is_keyed, is_shallow_temp, instruction_arg}
 use Rattle.indexing_iter.specs.Keys.{key_in, is_open}
 use Rattle.indexing_iter.specs.Clauses.{clauses_of}
 
--- the number of a check's answer, 0 where it passed
-abbrev pub number_of : Checked → ℕ
-number_of Passed = 0
-number_of (Refused n) = n
-
 -- the first check's refusal, or else the next one's answer
 abbrev pub otherwise : Checked → Checked → Checked
-otherwise Passed next = next
-otherwise (Refused n) next = Refused n
+otherwise (Ok u) next = next
+otherwise (Err e) next = Err e
 
--- refused with n where the condition is met
-abbrev pub refuse : Bool → ℕ → Checked
-refuse met n = cond met (Refused n) Passed
+-- refused where the condition is met
+abbrev pub refuse : Bool → Refusal → Checked
+refuse met e = cond met (Err e) passed
 
 -- 1: arity outside 1..32
 abbrev pub check_arity : ℕ → Checked
-check_arity arity = refuse (not (leb 1 arity && leb arity 32)) 1
+check_arity arity = refuse (not (leb 1 arity && leb arity 32)) Arity
 
 -- 2: c is 0 or above arity
 abbrev pub check_chosen : ℕ → ℕ → Checked
-check_chosen arity c = refuse (eqb c 0 || ltb arity c) 2
+check_chosen arity c = refuse (eqb c 0 || ltb arity c) ChosenArgument
 
 -- 3: code not whole records or over 32,768
 abbrev pub check_size : List ℕ → Checked
-check_size code = refuse (not (eqb (length code % 16) 0) || ltb 32768 (length code / 16)) 3
+check_size code = refuse (not (eqb (length code % 16) 0) || ltb 32768 (length code / 16)) CodeSize
 
 -- strictly rising, and all below n
 unfoldable pub rising_below : ℕ → List ℕ → Bool
@@ -45,7 +41,7 @@ rising_below n (s ∷ (t ∷ ts)) = let rest = rising_below n (t ∷ ts) in ltb 
 
 -- 4: starts: none, over 1,024, not strictly rising, or at or past the code's end
 abbrev pub check_starts : ℕ → List ℕ → Checked
-check_starts n starts = refuse (not (leb 1 (length starts) && (leb (length starts) 1024 && rising_below n starts))) 4
+check_starts n starts = refuse (not (leb 1 (length starts) && (leb (length starts) 1024 && rising_below n starts))) Starts
 
 abbrev pub is_body : InstructionArg → Bool
 is_body NonHead = true
@@ -72,24 +68,24 @@ register_bad arity last reg = eqb reg 0 || (ltb arity reg || leb reg last)
 
 -- 7 at one record, and then the records after it, whose answer is rest at the last register; nothing is read past a body record
 abbrev pub register_step : InstructionArg → ℕ → ℕ → (ℕ → Checked) → Checked
-register_step NonHead arity last rest = Passed
+register_step NonHead arity last rest = passed
 register_step Prologue arity last rest = rest last
 register_step ArglessHead arity last rest = rest last
-register_step (ArgedHead reg key) arity last rest = cond (register_bad arity last reg) (Refused 7) (rest reg)
+register_step (ArgedHead reg key) arity last rest = cond (register_bad arity last reg) (Err Register) (rest reg)
 
 -- 6 and 7, record by record through the first body record, within a record 6 before 7
 unfoldable pub check_records : (ℕ → ℕ) → ℕ → List Rec → ℕ → Checked
-check_records cls arity [] last = Passed
+check_records cls arity [] last = passed
 check_records cls arity (r ∷ rs) last =
-    cond (record_bad (cls r.kind) r) (Refused 6) (register_step (instruction_arg cls r) arity last (check_records cls arity rs))
+    cond (record_bad (cls r.kind) r) (Err KeyRecord) (register_step (instruction_arg cls r) arity last (check_records cls arity rs))
 
 -- 5 to 7 of one clause, its 5 first
 unfoldable pub check_clause : (ℕ → ℕ) → ℕ → List Rec → Checked
-check_clause cls arity rs = cond (has_body cls rs) (check_records cls arity rs 0) (Refused 5)
+check_clause cls arity rs = cond (has_body cls rs) (check_records cls arity rs 0) (Err NoBody)
 
 -- 5 to 7, clause by clause
 unfoldable pub check_clauses : (ℕ → ℕ) → ℕ → List (List Rec) → Checked
-check_clauses cls arity [] = Passed
+check_clauses cls arity [] = passed
 check_clauses cls arity (c ∷ cs) = let rest = check_clauses cls arity cs in otherwise (check_clause cls arity c) rest
 
 -- 8: a clause with no key at c
@@ -98,7 +94,7 @@ open_somewhere cls c [] = false
 open_somewhere cls c (rs ∷ rss) = let rest = open_somewhere cls c rss in is_open (key_in cls rs c) || rest
 
 abbrev pub check_keyed : (ℕ → ℕ) → ℕ → List (List Rec) → Checked
-check_keyed cls c cs = refuse (open_somewhere cls c cs) 8
+check_keyed cls c cs = refuse (open_somewhere cls c cs) OpenClause
 
 -- 3 to 7, of the code with its starts
 unfoldable pub check_clauses_of : (ℕ → ℕ) → ℕ → List ℕ → List ℕ → Checked

@@ -1,15 +1,15 @@
 -- What refuses code, and where: the number of the checks (specs/Checks), and the clause and the record first at fault.
 -- Assumes nothing.
-use Rattle.std.specs.Prelude.{ℕ, suc, ◌+◌, ◌-◌, Bool, true, false, cond, List, [], ◌∷◌, map, eqb, ltb, length, get_or}
+use Rattle.std.specs.Prelude.{ℕ, suc, ◌+◌, ◌-◌, Bool, true, false, cond, List, [], ◌∷◌, map, eqb, ltb, length, get_or, Option, None, Some, Ok, Err}
 use Rattle.records.specs.declared.Rec.{Rec}
 use Rattle.records.specs.Records.{records_of}
-use Rattle.indexing_iter.specs.declared.Checked.{Checked}
-use Rattle.indexing_iter.specs.declared.Checked.TheVariants.{Passed, Refused}
+use Rattle.indexing_iter.specs.declared.refusal.Refusal.{Refusal}
 use Rattle.indexing_iter.specs.declared.Fault.{Fault}
 use Rattle.indexing_iter.specs.Classes.{instruction_arg}
 use Rattle.indexing_iter.specs.Keys.{key_in, is_open}
 use Rattle.indexing_iter.specs.Clauses.{clauses_of}
-use Rattle.indexing_iter.specs.Checks.{number_of, is_body, check_records, check_clause, check_code, check_build}
+use Rattle.indexing_iter.specs.Refusals.{refusal_number, Checked}
+use Rattle.indexing_iter.specs.Checks.{is_body, check_records, check_clause, check_code, check_build}
 
 -- the place of the first item that passes the test, counted from 0; how many items there are, where none does
 unfoldable pub first_at : {A : Type 0} → (A → Bool) → List A → ℕ
@@ -22,8 +22,8 @@ fronts [] = []
 fronts (r ∷ rs) = let rest = fronts rs in (r ∷ []) ∷ map (λ front. r ∷ front) rest
 
 abbrev pub is_refused : Checked → Bool
-is_refused Passed = false
-is_refused (Refused n) = true
+is_refused (Ok u) = false
+is_refused (Err n) = true
 
 -- 5 to 7: the first clause that is refused
 abbrev pub refused_at : (ℕ → ℕ) → ℕ → List (List Rec) → ℕ
@@ -41,29 +41,34 @@ bad_at cls arity rs = first_at (λ front. is_refused (check_records cls arity fr
 abbrev pub body_at : (ℕ → ℕ) → List Rec → ℕ
 body_at cls rs = first_at (λ r. is_body (instruction_arg cls r)) rs
 
--- the clause that a number from 5 on is told of
-abbrev pub clause_for : (ℕ → ℕ) → ℕ → ℕ → ℕ → List (List Rec) → ℕ
-clause_for cls arity c n cs = cond (eqb n 8) (open_at cls c cs) (refused_at cls arity cs)
+-- the clause that a refusal with 5 to 8 is told of
+abbrev pub clause_for : (ℕ → ℕ) → ℕ → ℕ → Refusal → List (List Rec) → ℕ
+clause_for cls arity c e cs = cond (eqb (refusal_number e) 8) (open_at cls c cs) (refused_at cls arity cs)
 
 -- and the record, counted from the clause's start; of 5 it is the clause's last
-abbrev pub record_for : (ℕ → ℕ) → ℕ → ℕ → List Rec → ℕ
-record_for cls arity n rs = cond (eqb n 5) (length rs - 1) (cond (eqb n 8) (body_at cls rs) (bad_at cls arity rs))
+abbrev pub record_for : (ℕ → ℕ) → ℕ → Refusal → List Rec → ℕ
+record_for cls arity e rs = cond (eqb (refusal_number e) 5) (length rs - 1) (cond (eqb (refusal_number e) 8) (body_at cls rs) (bad_at cls arity rs))
 
--- a number of which no clause is told
-abbrev pub bare : ℕ → Fault
-bare n = record { number = n; clause = 0; at = 0 }
+-- a refusal of which no clause is told
+abbrev pub bare : Refusal → Fault
+bare e = record { refusal = e; clause = 0; at = 0 }
 
--- a number that clause k is refused with, the record counted from the code's start
-abbrev pub fault_at : (ℕ → ℕ) → ℕ → List Rec → List ℕ → ℕ → ℕ → Fault
-fault_at cls arity rs starts n k = record { number = n; clause = k; at = get_or starts k 0 + record_for cls arity n (get_or (clauses_of rs starts) k []) }
+-- a refusal of clause k, the record counted from the code's start
+abbrev pub fault_at : (ℕ → ℕ) → ℕ → List Rec → List ℕ → Refusal → ℕ → Fault
+fault_at cls arity rs starts e k = record { refusal = e; clause = k; at = get_or starts k 0 + record_for cls arity e (get_or (clauses_of rs starts) k []) }
 
 -- clause and record are told of 5 to 8
-abbrev pub fault_by : (ℕ → ℕ) → ℕ → ℕ → List Rec → List ℕ → ℕ → Fault
-fault_by cls arity c rs starts n = cond (ltb n 5) (bare n) (fault_at cls arity rs starts n (clause_for cls arity c n (clauses_of rs starts)))
+abbrev pub fault_by : (ℕ → ℕ) → ℕ → ℕ → List Rec → List ℕ → Refusal → Fault
+fault_by cls arity c rs starts e = cond (ltb (refusal_number e) 5) (bare e) (fault_at cls arity rs starts e (clause_for cls arity c e (clauses_of rs starts)))
+
+-- the fault of a check's answer, none where it passed
+abbrev pub fault_in : (ℕ → ℕ) → ℕ → ℕ → List Rec → List ℕ → Checked → Option Fault
+fault_in cls arity c rs starts (Ok u) = None
+fault_in cls arity c rs starts (Err e) = Some (fault_by cls arity c rs starts e)
 
 -- what the builder checks; without c, which is 0 then, what walk and witness check of the code
 abbrev pub check_with : (ℕ → ℕ) → ℕ → ℕ → List ℕ → List ℕ → Checked
 check_with cls arity c code starts = cond (eqb c 0) (check_code cls arity code starts) (check_build cls arity c code starts)
 
-unfoldable pub fault_of : (ℕ → ℕ) → ℕ → ℕ → List ℕ → List ℕ → Fault
-fault_of cls arity c code starts = fault_by cls arity c (records_of code) starts (number_of (check_with cls arity c code starts))
+unfoldable pub fault_of : (ℕ → ℕ) → ℕ → ℕ → List ℕ → List ℕ → Option Fault
+fault_of cls arity c code starts = fault_in cls arity c (records_of code) starts (check_with cls arity c code starts)

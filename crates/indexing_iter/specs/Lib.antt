@@ -1,5 +1,8 @@
+pub mod Refusals
 pub mod Classes
 pub mod Keys
+pub mod Groups
+pub mod Programs
 pub mod Clauses
 pub mod Rows
 pub mod Checks

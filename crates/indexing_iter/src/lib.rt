@@ -2,22 +2,33 @@
 // Port of scryer-prolog's indexing_iter.rs: extract_index_arg, collect_opt_arg_index_keys, IndexedClauseView.
 #![tactic(auto)]
 
-use records::Rec;
-
 pub mod checks;
 pub mod clause_view;
+pub mod clauses;
+pub mod group;
+pub mod program;
+pub mod reader;
+pub mod refusal;
 
 ghost use Rattle.std.specs.Prelude.{◌≡◌, true, ◌≤◌, ◌<◌, length, drop, get_or, replicate, map, ◌++◌};
 ghost use Rattle.std.proofs.Math.Seq.{slice};
 ghost use Rattle.records.specs.Records.{records_of, zero_rec};
 ghost use Rattle.indexing_iter.specs.Classes.{class_of, key_of_class, arg_of_class, instruction_arg};
 ghost use Rattle.indexing_iter.specs.Keys.{sort_of, arity_of, bits_of, group_of, is_open, same, key_in};
+ghost use Rattle.indexing_iter.specs.Refusals.{passed};
+ghost use Rattle.indexing_iter.specs.Groups.{group_code};
 ghost use Rattle.indexing_iter.specs.Clauses.{key_of, known};
 ghost use Rattle.indexing_iter.specs.Rows.{head_by, head_of, same_bits, keys_of};
 ghost use Rattle.indexing_iter.specs.Checks.{check_code};
 
+use group::Group;
+use program::Program;
+use reader::Reader;
+use records::Rec;
+use refusal::Refusal;
+
 // What indexing knows of one argument of a clause, or of a call.
-#[derive(Clone, Copy)]
+#[derive(Clone, Copy, Debug, PartialEq, Eq)]
 pub enum OptArgIndexKey {
     None,
     Literal(u16, u64),
@@ -34,18 +45,11 @@ pub enum InstructionArg {
     Prologue,
 }
 
-// A check's answer: passed, or refused with a number of document 01's table.
-#[derive(Clone, Copy)]
-pub enum Checked {
-    Passed,
-    Refused(u32),
-}
-
-// What refuses code, and where: the checks' number, 0 where nothing does; the clause and the record of the code first at fault, both
-// counted from 0, and 0 where no record is at fault.
+// What refuses code, and where: the refusal, and the clause and the record of the code first at fault, both counted from 0; 0 where no clause
+// is at fault.
 #[derive(Clone, Copy)]
 pub struct Fault {
-    pub number: u32,
+    pub refusal: Refusal,
     pub clause: usize,
     pub at: usize,
 }
@@ -62,6 +66,7 @@ pub struct Settings {
 }
 
 // The class of each opcode: 1 prologue, 2 argless head, 3 GetStructure, 4 GetList, 5 GetConstant, 6 GetPartialString, 0 body.
+// A class stays a number, and is no enum: a table of classes is bytes, and a caller may hand in its own.
 const CLASS: [u8; 256] = [
     1, 1, 1, 1, 1, 1, 1, 1, 1, 1, 0, 0, 0, 0, 0, 0, 3, 4, 5, 6, 0, 0, 0, 0, 0, 0, 0, 0, 0, 0, 0, 0,
     2, 2, 2, 2, 2, 2, 2, 0, 0, 0, 0, 0, 0, 0, 0, 0, 0, 0, 0, 0, 0, 0, 0, 0, 0, 0, 0, 0, 0, 0, 0, 0,
@@ -104,10 +109,8 @@ pub fn arity_of(k: OptArgIndexKey) -> u16
     ensures { result ≡ arity_of k }
 {
     match k {
-        OptArgIndexKey::None => 0,
-        OptArgIndexKey::Literal(_, _) => 0,
         OptArgIndexKey::Structure(n, _) => n,
-        OptArgIndexKey::List => 0,
+        OptArgIndexKey::None | OptArgIndexKey::Literal(_, _) | OptArgIndexKey::List => 0,
     }
 }
 
@@ -115,41 +118,34 @@ pub fn bits_of(k: OptArgIndexKey) -> u64
     ensures { result ≡ bits_of k }
 {
     match k {
-        OptArgIndexKey::None => 0,
-        OptArgIndexKey::Literal(_, b) => b,
-        OptArgIndexKey::Structure(_, f) => f,
-        OptArgIndexKey::List => 0,
+        OptArgIndexKey::Literal(_, bits) | OptArgIndexKey::Structure(_, bits) => bits,
+        OptArgIndexKey::None | OptArgIndexKey::List => 0,
     }
 }
 
-// The group of a switch that a key belongs to: 1 literals, 2 list, 3 structures, 0 none.
-pub fn group_of(k: OptArgIndexKey) -> u8
-    ensures { result ≡ group_of k }
+// The group of a switch that a key belongs to.
+pub fn group_of(k: OptArgIndexKey) -> Option<Group>
+    ensures { group_code result ≡ group_of k }
 {
     match k {
-        OptArgIndexKey::None => 0,
-        OptArgIndexKey::Literal(_, _) => 1,
-        OptArgIndexKey::Structure(_, _) => 3,
-        OptArgIndexKey::List => 2,
+        OptArgIndexKey::None => None,
+        OptArgIndexKey::Literal(_, _) => Some(Group::Literals),
+        OptArgIndexKey::Structure(_, _) => Some(Group::Structures),
+        OptArgIndexKey::List => Some(Group::List),
     }
 }
 
 pub fn is_open(k: OptArgIndexKey) -> bool
     ensures { result ≡ is_open k }
 {
-    match k {
-        OptArgIndexKey::None => true,
-        OptArgIndexKey::Literal(_, _) => false,
-        OptArgIndexKey::Structure(_, _) => false,
-        OptArgIndexKey::List => false,
-    }
+    matches!(k, OptArgIndexKey::None)
 }
 
 // A key's first number: its sort and arity in one. Its second are its bits.
 pub fn head_by(sort: u16, arity: u16) -> u32
     ensures { (result ≡ head_by sort arity) × (arity < 65536) }
 {
-    wide(sort) * 65536 + wide(arity)
+    u32::from(sort) * 65536 + u32::from(arity)
 }
 
 pub fn head_of(k: OptArgIndexKey) -> u32
@@ -158,85 +154,60 @@ pub fn head_of(k: OptArgIndexKey) -> u32
     head_by(sort_of(k), arity_of(k))
 }
 
-fn wide(x: u16) -> u32
-    ensures { (result ≡ x) × (result < 65536) }
-{
-    x as u32
-}
-
-// Whether two keys, each by its two numbers, are equal. Wherever keys are compared it is by this function.
+// Whether two keys, each by its two numbers, are equal. Wherever keys stand as numbers they are compared by this function.
 pub fn same_bits(head: u32, bits: u64, head2: u32, bits2: u64) -> bool
     ensures { result ≡ same_bits head bits head2 bits2 }
 {
-    if bits != bits2 {
-        return false;
-    }
-    head == head2
+    head == head2 && bits == bits2
 }
 
-// Whether two keys are equal: sort, arity and bits are. The group tells a literal of any sort from the other keys.
+// Whether two keys are equal: sort, arity and bits are.
 pub fn same_key(a: OptArgIndexKey, b: OptArgIndexKey) -> bool
     ensures { result ≡ same a b }
 {
-    if group_of(a) != group_of(b) {
-        return false;
-    }
-    same_bits(head_of(a), bits_of(a), head_of(b), bits_of(b))
+    a == b
 }
 
 // The key of a keyed record, by its class.
 fn key_of_class(class: u8, r: Rec) -> OptArgIndexKey
     ensures { result ≡ key_of_class class r }
 {
-    if class == 3 {
-        return OptArgIndexKey::Structure(r.half, r.long);
+    match class {
+        3 => OptArgIndexKey::Structure(r.half, r.long),
+        5 => OptArgIndexKey::Literal(r.half, r.long),
+        _ => OptArgIndexKey::List,
     }
-    if class == 5 {
-        return OptArgIndexKey::Literal(r.half, r.long);
-    }
-    OptArgIndexKey::List
 }
 
 // What a record of a class says of an argument.
+#[tactic(auto, unfolding(crate::specs::Classes::arg_of_class))]
 pub fn arg_of_class(class: u8, r: Rec) -> InstructionArg
     ensures { result ≡ arg_of_class class r }
 {
-    if class == 1 {
-        return InstructionArg::Prologue;
+    match class {
+        1 => InstructionArg::Prologue,
+        2 => InstructionArg::ArglessHead,
+        3..=6 if r.sub % 4 == 0 => InstructionArg::ArgedHead(r.word, key_of_class(class, r)),
+        _ => InstructionArg::NonHead,
     }
-    if class == 2 {
-        return InstructionArg::ArglessHead;
-    }
-    if class < 3 {
-        return InstructionArg::NonHead;
-    }
-    if 6 < class {
-        return InstructionArg::NonHead;
-    }
-    let sub = r.sub;
-    if sub % 4 != 0 {
-        return InstructionArg::NonHead;
-    }
-    InstructionArg::ArgedHead(r.word, key_of_class(class, r))
 }
 
 // What the code record at place i says of an argument, by a table of classes.
-pub fn extract_index_arg(table: &[u8], code: &[u8], i: usize) -> InstructionArg
-    requires { (length table.now ≡ 256) × (i < length (records_of code.now)) }
-    ensures { result ≡ instruction_arg (λ op. get_or table.now op 0) (get_or (records_of code.now) i zero_rec) }
+pub fn extract_index_arg(reader: &Reader, i: usize) -> InstructionArg
+    requires { i < length (records_of reader.now.code.now) }
+    ensures { result ≡ instruction_arg (λ op. get_or reader.now.table.now op 0) (get_or (records_of reader.now.code.now) i zero_rec) }
 {
-    let r = records::get(code, i);
-    arg_of_class(class_in(table, r.kind), r)
+    let r = records::get(reader.code, i);
+    arg_of_class(class_in(reader.table, r.kind), r)
 }
 
 // The key at argument j that the records from start up to end give, by a table of classes. A body record ends the reading.
-pub fn key_by(table: &[u8], code: &[u8], start: usize, end: usize, j: u32) -> OptArgIndexKey
-    requires { (length table.now ≡ 256) × (end ≤ length (records_of code.now)) }
-    ensures { result ≡ key_in (λ op. get_or table.now op 0) (slice start end (records_of code.now)) j }
+pub fn key_by(reader: &Reader, start: usize, end: usize, j: u32) -> OptArgIndexKey
+    requires { end ≤ length (records_of reader.now.code.now) }
+    ensures { result ≡ key_in (λ op. get_or reader.now.table.now op 0) (slice start end (records_of reader.now.code.now)) j }
 {
-    let mut i = start;
-    while i < end {
-        let a = extract_index_arg(table, code, i);
+    for i in start..end {
+        let a = extract_index_arg(reader, i);
         let (InstructionArg::ArgedHead(_, _)
         | InstructionArg::ArglessHead
         | InstructionArg::Prologue) = a
@@ -248,7 +219,6 @@ pub fn key_by(table: &[u8], code: &[u8], start: usize, end: usize, j: u32) -> Op
                 return key;
             }
         }
-        i += 1;
     }
     OptArgIndexKey::None
 }
@@ -258,19 +228,21 @@ pub fn key_in(code: &[u8], start: usize, end: usize, j: u32) -> OptArgIndexKey
     requires { end ≤ length (records_of code.now) }
     ensures { result ≡ key_in class_of (slice start end (records_of code.now)) j }
 {
-    let table = classes();
-    key_by(&table, code, start, end, j)
+    let reader = Reader {
+        table: &classes(),
+        code,
+    };
+    key_by(&reader, start, end, j)
 }
 
 // The key at argument j of the clause at a known offset of checked code, read through a view of the clause. A checked
 // clause has a body record, so reading from its start stops before the next clause.
-pub fn key_of(code: &[u8], starts: &[u32], arity: u32, offset: u32, j: u32) -> OptArgIndexKey
-    requires starts_value { check_code class_of arity code.now starts.now ≡ Checked.Passed }
-    requires offset_value { known starts.now offset ≡ true }
-    ensures { result ≡ key_of class_of (records_of code.now) starts.now offset j }
+pub fn key_of(program: &Program, offset: u32, j: u32) -> OptArgIndexKey
+    requires { known program.now.starts.now offset ≡ true }
+    ensures { result ≡ key_of class_of (records_of program.now.code.now) program.now.starts.now offset j }
 {
     let start = (offset - 1) as usize;
-    clause_view::key_at(code, start, j)
+    clause_view::key_at(program.code, start, j)
 }
 
 // Clears the first n numbers of both lists.
@@ -278,38 +250,31 @@ fn clear_keys(heads: &mut [u32], bits: &mut [u64], n: usize)
     requires { (n ≤ length heads.old) × (n ≤ length bits.old) }
     ensures { (heads.new ≡ replicate n 0 ++ drop n heads.old) × (bits.new ≡ replicate n 0 ++ drop n bits.old) }
 {
-    let mut i = 0;
-    while i < n {
-        heads[i] = 0;
-        bits[i] = 0;
-        i += 1;
-    }
+    heads[..n].fill(0);
+    bits[..n].fill(0);
 }
 
 // All keys of the clause at a known offset of checked code, by a table of classes, in one pass over its records. A body
 // record ends the reading.
 fn collect_keys(
-    table: &[u8],
-    code: &[u8],
+    reader: &Reader,
     starts: &[u32],
     arity: u32,
     offset: u32,
     heads: &mut [u32],
     bits: &mut [u64],
 )
-    requires starts_value { check_code (λ op. get_or table.now op 0) arity code.now starts.now ≡ Checked.Passed }
+    requires starts_value { check_code (λ op. get_or reader.now.table.now op 0) arity reader.now.code.now starts.now ≡ passed }
     requires offset_value { known starts.now offset ≡ true }
     requires arity_in_bounds { (arity ≤ length heads.old) × (arity ≤ length bits.old) }
-    requires table_len { length table.now ≡ 256 }
-    ensures heads_after { heads.new ≡ map head_of (keys_of (λ op. get_or table.now op 0) (records_of code.now) starts.now offset arity) ++ drop arity heads.old }
-    ensures bits_after { bits.new ≡ map bits_of (keys_of (λ op. get_or table.now op 0) (records_of code.now) starts.now offset arity) ++ drop arity bits.old }
+    ensures heads_after { heads.new ≡ map head_of (keys_of (λ op. get_or reader.now.table.now op 0) (records_of reader.now.code.now) starts.now offset arity) ++ drop arity heads.old }
+    ensures bits_after { bits.new ≡ map bits_of (keys_of (λ op. get_or reader.now.table.now op 0) (records_of reader.now.code.now) starts.now offset arity) ++ drop arity bits.old }
 {
     let n = arity as usize;
     clear_keys(heads, bits, n);
-    let end = records::capacity(code);
-    let mut i = (offset - 1) as usize;
-    while i < end {
-        let a = extract_index_arg(table, code, i);
+    let end = records::capacity(reader.code);
+    for i in (offset - 1) as usize..end {
+        let a = extract_index_arg(reader, i);
         let (InstructionArg::ArgedHead(_, _)
         | InstructionArg::ArglessHead
         | InstructionArg::Prologue) = a
@@ -321,25 +286,31 @@ fn collect_keys(
             heads[at] = head_of(key);
             bits[at] = bits_of(key);
         }
-        i += 1;
     }
 }
 
-// All keys of the clause at a known offset of checked code, argument by argument: sort and arity to heads, the bits to bits.
+// All keys of the clause at a known offset, argument by argument: sort and arity to heads, the bits to bits.
 pub fn collect_opt_arg_index_keys(
-    code: &[u8],
-    starts: &[u32],
-    arity: u32,
+    program: &Program,
     offset: u32,
     heads: &mut [u32],
     bits: &mut [u64],
 )
-    requires starts_value { check_code class_of arity code.now starts.now ≡ Checked.Passed }
-    requires offset_value { known starts.now offset ≡ true }
-    requires arity_in_bounds { (arity ≤ length heads.old) × (arity ≤ length bits.old) }
-    ensures heads_after { heads.new ≡ map head_of (keys_of class_of (records_of code.now) starts.now offset arity) ++ drop arity heads.old }
-    ensures bits_after { bits.new ≡ map bits_of (keys_of class_of (records_of code.now) starts.now offset arity) ++ drop arity bits.old }
+    requires offset_value { known program.now.starts.now offset ≡ true }
+    requires arity_in_bounds { (program.now.settings.arity ≤ length heads.old) × (program.now.settings.arity ≤ length bits.old) }
+    ensures heads_after { heads.new ≡ map head_of (keys_of class_of (records_of program.now.code.now) program.now.starts.now offset program.now.settings.arity) ++ drop program.now.settings.arity heads.old }
+    ensures bits_after { bits.new ≡ map bits_of (keys_of class_of (records_of program.now.code.now) program.now.starts.now offset program.now.settings.arity) ++ drop program.now.settings.arity bits.old }
 {
-    let table = classes();
-    collect_keys(&table, code, starts, arity, offset, heads, bits);
+    let reader = Reader {
+        table: &classes(),
+        code: program.code,
+    };
+    collect_keys(
+        &reader,
+        program.starts,
+        program.settings.arity,
+        offset,
+        heads,
+        bits,
+    );
 }

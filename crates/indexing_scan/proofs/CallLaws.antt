@@ -1,18 +1,19 @@
 -- A call's records one by one, and what a check of the call that passed says.
 -- Assumes nothing.
-use Prim.Native.Nat.{ℕ, ◌+◌, ◌*◌, ◌≤◌, ◌<◌}
-use mathlib.Core.Path.{◌≡◌, ap}
-use mathlib.Core.Bool.{Bool, true, not, ◌&&◌}
+use Prim.Native.Nat.{ℕ, ◌+◌, ◌*◌, ◌<◌}
+use mathlib.Core.Path.{◌≡◌}
+use mathlib.Core.Bool.{Bool, not, ◌&&◌}
 use mathlib.Core.List.{List, ◌∷◌}
 use native.Mathlib.Numerals.{add-one}
 use native.Mathlib.Omega.{arith}
 use lib.Dec.{eqb}
-use lib.ListN.{length, get_or, drop, drop_of_length-le}
+use lib.ListN.{length, get_or, drop}
 use lib.Seq.{drop-cons}
 use borrow.Author.Tests.{eqb-true, not-false}
 use Rattle.records.specs.Records.{records_of}
 use Rattle.records.proofs.Laws.{length-records_of}
-use Rattle.indexing_iter.specs.declared.Checked.TheVariants.{Passed}
+use Rattle.indexing_iter.specs.declared.refusal.Refusal.TheVariants.{Call as CallOf}
+use Rattle.indexing_iter.specs.Refusals.{passed}
 use Rattle.indexing_iter.proofs.SameKeys.{and_left}
 use Rattle.indexing_iter.proofs.KeyLaws.{not-refused}
 use Rattle.indexing.specs.Lists.{every}
@@ -23,19 +24,13 @@ use Rattle.indexing_scan.specs.Calls.{argument_ok, check_call}
 pub rest-step : {A : Type 0} (xs : List A) (i : ℕ) (d : A) → i < length xs → drop i xs ≡ get_or xs i d ∷ drop (i + 1) xs
 rest-step xs i d h = rw (add-one i) (drop-cons xs i d h)
 
-pub every-step : {A : Type 0} (p : A → Bool) (xs : List A) (i : ℕ) (d : A) → i < length xs → every p (drop i xs) ≡ p (get_or xs i d) && every p (drop (i + 1) xs)
-every-step p xs i d h = ap (every p) (rest-step xs i d h)
-
-pub every-done : {A : Type 0} (p : A → Bool) (xs : List A) (i : ℕ) → length xs ≤ i → every p (drop i xs) ≡ true
-every-done p xs i h = ap (every p) (drop_of_length-le xs h)
-
 -- ---- a call that passed
 
 -- it has as many records as the arity says
-pub call-records : (arity : ℕ) (call : List ℕ) → check_call arity call ≡ Passed → length (records_of call) ≡ arity
+pub call-records : (arity : ℕ) (call : List ℕ) → check_call arity call ≡ passed → length (records_of call) ≡ arity
 call-records arity call e =
     let whole : Bool = eqb (length call) (16 * arity) in
     let right : Bool = every argument_ok (records_of call) in
-    let t = (not-refused (not (whole && right)) 10 Passed e).0 in
+    let t = (not-refused (not (whole && right)) CallOf passed e).0 in
     let s = and_left whole right (not-false (whole && right) t) in
     omega (arith, length-records_of call, eqb-true (length call) (16 * arity) s)

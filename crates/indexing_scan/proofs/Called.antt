@@ -11,7 +11,8 @@ use Rattle.records.specs.Records.{rec_of, decode, encode_rec, encode, recs, reco
 use Rattle.indexing_iter.specs.Classes.{class_of, arg_of_class}
 use Rattle.indexing_iter.specs.Keys.{key_in}
 use Rattle.indexing_iter.specs.Clauses.{clauses_of, clause_at, key_of, known}
-use Rattle.indexing_iter.specs.Checks.{number_of, rising_below, has_body, record_bad, check_records, check_clause, check_clauses, check_clauses_of, check_code}
+use Rattle.indexing_iter.specs.Refusals.{number_of}
+use Rattle.indexing_iter.specs.Checks.{rising_below, has_body, record_bad, check_records, check_clause, check_clauses, check_clauses_of, check_code}
 use Rattle.indexing.proofs.Sample.{line, switch, demand, entry, inner, offset, constant, body, plain, alike, all}
 use Rattle.indexing.specs.Expand.{expand_at}
 use Rattle.indexing.specs.Builder.{stored}

@@ -161,12 +161,6 @@ module _ (q : Key) (l : List Rec) (from to g count : ℕ) (h : from ≤ to) (k :
         ap (λ (x : Rec). Equal x.word) (in-slice (up_to (has_key q) (slice from to l)) place r p w f)
         ∙ equal-some q (slice from to l) (omega (arith, length-slice from to l k)) ∙ choose-many q (slice from to l) (omega (arith, many))
 
--- the only entry of the key's group is followed, whatever its key
-pub only_chosen : (q : Key) (l : List Rec) (from to : ℕ) (r : Rec) (place : ℕ) → r ≡ get_or l place zero_rec → from ≤ to → to ≤ length l
-    → count_of (in_group (group_of q)) (slice from to l) ≡ 1 → place ≡ from + up_to (in_group (group_of q)) (slice from to l)
-    → Only r.word ≡ choose_rec q (slice from to l)
-only_chosen q l from to r place f h k c p = ends-only q l from to (group_of q) (count_of (in_group (group_of q)) (slice from to l)) h k refl refl c place p r f
-
 -- ---- the walk's choice
 
 entries-kept : (q : Key) (rs : List Rec) → keep (λ (e : Entry Ptr). eqb (group_of q) (group_of e.key)) (map entry_from rs) ≡ map entry_from (keep (in_group (group_of q)) rs)

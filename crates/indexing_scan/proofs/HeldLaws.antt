@@ -3,24 +3,27 @@
 use mathlib.Core.Path.{◌≡◌, refl, sym, ap, ap₂, ◌∙◌}
 use mathlib.Core.Bool.{Bool, true, false, cond, ◌&&◌, ◌||◌}
 use mathlib.Core.List.{List, [], ◌∷◌, ◌++◌, append-nil}
-use Prim.Native.Nat.{ℕ, zero, suc, ◌+◌, ◌-◌, ◌≤◌, ◌<◌}
+use Prim.Native.Nat.{ℕ, zero, suc, ◌+◌, ◌≤◌, ◌<◌}
 use native.Mathlib.Omega.{arith}
 use lib.Dec.{eqb}
-use lib.ListN.{length, take, drop, get_or, set, length-append, drop_of_length-le}
-use lib.Seq.{take-suc, drop-cons, append_snoc, get_or-append-add, get_or-drop, get_or-take, set_at, take_at}
+use lib.ListN.{length, take, drop, get_or, set, length-append}
+use lib.Seq.{take-suc, take-length, drop-cons, append_snoc, get_or-take, set_at, take_at}
 use native.Mathlib.Numerals.{add-one}
 use borrow.Author.Tests.{eqb-true, ne_eqb}
+use Rattle.std.proofs.lemmas.List.{take_all}
+use Rattle.std.specs.List.{list_any, list_all}
 use Rattle.indexing_iter.specs.declared.OptArgIndexKey.{OptArgIndexKey as Key}
 use Rattle.indexing_iter.specs.Keys.{group_of, is_open, same}
 use Rattle.indexing_iter.specs.Clauses.{known}
-use Rattle.indexing.specs.Lists.{add, keep, any_of, every}
+use Rattle.indexing.specs.Lists.{add, keep, every}
 use Rattle.indexing.specs.Build.{single}
 use Rattle.indexing.proofs.BridgeLists.{keep_append}
 use Rattle.indexing.proofs.Lists.{every-keep}
 use Rattle.indexing.proofs.Tests.{and-true}
-use Rattle.indexing_scan.proofs.CallLaws.{rest-step}
 use Rattle.indexing_scan.specs.Walk.{stop, goto, unstored, enter}
-use Rattle.indexing_scan.specs.Unstored.{move_of, count_of, held_by, Held, alike, like_to, all_same, any_open, entered_by, empty_by}
+use Rattle.indexing_scan.specs.Unstored.{step_number, move_of, count_of, held_by, Held, alike, like_to, all_same, any_open, entered_by, empty_by}
+use Rattle.indexing_scan.specs.declared.unstored.Step.{Step}
+use Rattle.indexing_scan.specs.declared.unstored.Step.TheVariants.{Only}
 use Rattle.indexing_scan.specs.declared.unstored.Narrowed.{Narrowed}
 use Rattle.indexing_scan.specs.declared.unstored.Narrowed.TheVariants.{Failed, Single, Bucket}
 
@@ -34,17 +37,6 @@ module _ (t : ℕ → Bool) (l₀ : List ℕ) where
 
   pub kept-start : Kept 0 0 l₀
   kept-start = record { count = refl; few = omega arith; list = refl }
-
-  -- what is read at place i has not been written
-  pub kept_read : (i k : ℕ) (l : List ℕ) → Kept i k l → get_or l i 0 ≡ get_or l₀ i 0
-  kept_read i k l s =
-      let n : length (keep t (take i l₀)) + (i - k) ≡ i = omega (arith, s.count, s.few) in
-      let m : k + (i - k) ≡ i = omega (arith, s.few) in
-      ap (λ (x : List ℕ). get_or x i 0) s.list
-      ∙ ap (λ (x : ℕ). get_or (keep t (take i l₀) ++ drop k l₀) x 0) (sym n)
-      ∙ get_or-append-add (keep t (take i l₀)) (drop k l₀) (i - k) 0
-      ∙ get_or-drop k l₀ (i - k) 0
-      ∙ ap (λ (x : ℕ). get_or l₀ x 0) m
 
   -- the elements before place i + 1
   keep-next : (i : ℕ) → i < length l₀ → keep t (take (i + 1) l₀) ≡ keep t (take i l₀) ++ keep t (get_or l₀ i 0 ∷ [])
@@ -76,30 +68,33 @@ module _ (t : ℕ → Bool) (l₀ : List ℕ) where
         list = s.list ∙ ap (λ (x : List ℕ). x ++ drop k l₀) (sym n);
       }
 
--- ---- known offsets, and the turns of a loop over clauses
+  -- no element is left
+  pub kept-all : (i k : ℕ) (l : List ℕ) → Kept i k l → length l₀ ≤ i → (k ≡ length (keep t l₀)) × (l ≡ keep t l₀ ++ drop k l₀)
+  kept-all i k l s h =
+      let n : keep t (take i l₀) ≡ keep t l₀ = ap (keep t) (take_all i l₀ h) in
+      (s.count ∙ ap length n, s.list ∙ ap (λ (x : List ℕ). x ++ drop k l₀) n)
+
+-- ---- known offsets, and what holds of some or of every clause
 
 pub known_at : (p : ℕ → Bool) (l : List ℕ) (i : ℕ) → every p l ≡ true → i < length l → p (get_or l i 0) ≡ true
 known_at p [] i e h = absurd (omega arith)
 known_at p (x ∷ l) zero e h = (and-true (p x) (every p l) e).0
 known_at p (x ∷ l) (suc i) e h = known_at p l i (and-true (p x) (every p l) e).1 (omega arith)
 
-pub open_step : (K : ℕ → ℕ → Key) (a : ℕ) (l : List ℕ) (i : ℕ) → i < length l
-    → any_open K a (drop i l) ≡ is_open (K (get_or l i 0) a) || any_open K a (drop (i + 1) l)
+pub known_in : (p : ℕ → Bool) (l : List ℕ) (x k : ℕ) → every p l ≡ true → k < length l → x ≡ get_or l k x → p x ≡ true
+known_in p [] x k e h f = absurd (omega arith)
+known_in p (y ∷ l) x zero e h f = ap p f ∙ (and-true (p y) (every p l) e).0
+known_in p (y ∷ l) x (suc k) e h f = known_in p l x k (and-true (p y) (every p l) e).1 (omega arith) f
+
+pub open-any : (K : ℕ → ℕ → Key) (a : ℕ) (l : List ℕ) → list_any (λ o. is_open (K o a)) l ≡ any_open K a l
 unfolding any_open
-open_step K a l i h = ap (any_of (λ o. is_open (K o a))) (rest-step l i 0 h)
+open-any K a [] = refl
+open-any K a (o ∷ l) = ap (λ (b : Bool). is_open (K o a) || b) (open-any K a l)
 
-pub open_done : (K : ℕ → ℕ → Key) (a : ℕ) (l : List ℕ) (i : ℕ) → length l ≤ i → any_open K a (drop i l) ≡ false
-unfolding any_open
-open_done K a l i h = ap (any_of (λ o. is_open (K o a))) (drop_of_length-le l h)
-
-pub same_step : (K : ℕ → ℕ → Key) (a : ℕ) (k : Key) (l : List ℕ) (i : ℕ) → i < length l
-    → all_same K a k (drop i l) ≡ same (K (get_or l i 0) a) k && all_same K a k (drop (i + 1) l)
+pub same-all : (K : ℕ → ℕ → Key) (a : ℕ) (k : Key) (l : List ℕ) → list_all (λ o. same (K o a) k) l ≡ all_same K a k l
 unfolding all_same
-same_step K a k l i h = ap (every (λ o. same (K o a) k)) (rest-step l i 0 h)
-
-pub same-done : (K : ℕ → ℕ → Key) (a : ℕ) (k : Key) (l : List ℕ) (i : ℕ) → length l ≤ i → all_same K a k (drop i l) ≡ true
-unfolding all_same
-same-done K a k l i h = ap (every (λ o. same (K o a) k)) (drop_of_length-le l h)
+same-all K a k [] = refl
+same-all K a k (o ∷ l) = ap (λ (b : Bool). same (K o a) k && b) (same-all K a k l)
 
 -- ---- a bucket at the front of the list
 
@@ -136,8 +131,8 @@ unfolding like_to
 known-like p K g a q os e = every-keep p (λ o. alike g q (K o a)) os e
 
 -- the move of a bucket at the front
-entered-list : (dynamic : Bool) (h k : ℕ) (list : List ℕ) → k ≤ length list
-    → move_of (entered_by dynamic h k (get_or list 0 0)) list ≡ enter h (single dynamic (take k list)) (take k list)
+entered-list : (dynamic : Bool) (h : Step) (k : ℕ) (list : List ℕ) → k ≤ length list
+    → move_of (entered_by dynamic h k (get_or list 0 0)) list ≡ enter (step_number h) (single dynamic (take k list)) (take k list)
 unfolding entered_by
 entered-list true h k list e = refl
 entered-list false h zero list e = refl
@@ -147,52 +142,54 @@ entered-list false h (suc (suc k)) [] e = absurd (omega arith)
 entered-list false h (suc (suc k)) (x ∷ []) e = absurd (omega arith)
 entered-list false h (suc (suc k)) (x ∷ (y ∷ list)) e = rw (ne_eqb (suc (suc k)) 1 (λ z. absurd (omega arith))) refl
 
-pub entered-move : (dynamic : Bool) (h k : ℕ) (G list : List ℕ) → Front G k list
-    → move_of (entered_by dynamic h k (get_or list 0 0)) list ≡ enter h (single dynamic G) G
-entered-move dynamic h k G list s = entered-list dynamic h k list s.room ∙ ap (λ (l : List ℕ). enter h (single dynamic l) l) s.front
+pub entered-move : (dynamic : Bool) (h : Step) (k : ℕ) (G list : List ℕ) → Front G k list
+    → move_of (entered_by dynamic h k (get_or list 0 0)) list ≡ enter (step_number h) (single dynamic G) G
+entered-move dynamic h k G list s = entered-list dynamic h k list s.room ∙ ap (λ (l : List ℕ). enter (step_number h) (single dynamic l) l) s.front
 
 pub empty-move : (dynamic : Bool) (q : Key) (list : List ℕ) → move_of (empty_by dynamic q) list ≡ cond (dynamic && eqb (group_of q) 2) (goto 4 (unstored [])) stop
 unfolding empty_by
 empty-move dynamic q list = go (dynamic && eqb (group_of q) 2)
   where
-    go : (b : Bool) → move_of (cond b (Bucket 4 0) Failed) list ≡ cond b (goto 4 (unstored [])) stop
+    go : (b : Bool) → move_of (cond b (Bucket Only 0) Failed) list ≡ cond b (goto 4 (unstored [])) stop
     go true = refl
     go false = refl
 
 -- ---- what stands in the list
 
-pub held_same : (starts : List ℕ) (m : ℕ) (list : List ℕ) (r : Narrowed) → count_of m r ≡ m → held_by r (take m list) list ≡ take m list
-    → every (known starts) (take m list) ≡ true → Held starts m list list r
-held_same starts m list r e f g = record {
-  front = ap (λ (n : ℕ). take n list) e ∙ sym f;
-  within = omega arith;
-  offsets = ap (λ (n : ℕ). every (known starts) (take n list)) e ∙ g;
-}
+pub held_same : (starts list : List ℕ) (r : Narrowed) → count_of (length list) r ≡ length list → held_by r list list ≡ list
+    → every (known starts) list ≡ true → Held starts list list r
+held_same starts list r e f g =
+    let n : take (count_of (length list) r) list ≡ list = ap (λ (n : ℕ). take n list) e ∙ take-length list in
+    record {
+      front = n ∙ sym f;
+      within = omega arith;
+      offsets = ap (every (known starts)) n ∙ g;
+    }
 
-pub held_none : (starts : List ℕ) (m : ℕ) (old new : List ℕ) → Held starts m old new Failed
-held_none starts m old new = record { front = refl; within = omega arith; offsets = refl }
+pub held_none : (starts old new : List ℕ) → Held starts old new Failed
+held_none starts old new = record { front = refl; within = omega arith; offsets = refl }
 
-pub held-empty : (starts : List ℕ) (m : ℕ) (old new : List ℕ) (dynamic : Bool) (q : Key) → Held starts m old new (empty_by dynamic q)
+pub held-empty : (starts old new : List ℕ) (dynamic : Bool) (q : Key) → Held starts old new (empty_by dynamic q)
 unfolding empty_by
-held-empty starts m old new dynamic q = go (dynamic && eqb (group_of q) 2)
+held-empty starts old new dynamic q = go (dynamic && eqb (group_of q) 2)
   where
-    go : (b : Bool) → Held starts m old new (cond b (Bucket 4 0) Failed)
+    go : (b : Bool) → Held starts old new (cond b (Bucket Only 0) Failed)
     go true = record { front = refl; within = omega arith; offsets = refl }
-    go false = held_none starts m old new
+    go false = held_none starts old new
 
-pub held-entered : (starts : List ℕ) (m : ℕ) (old new : List ℕ) (dynamic : Bool) (h k : ℕ) → k ≤ length new → k ≤ m → every (known starts) (take k new) ≡ true
-    → Held starts m old new (entered_by dynamic h k (get_or new 0 0))
+pub held-entered : (starts old new : List ℕ) (dynamic : Bool) (h : Step) (k : ℕ) → k ≤ length new → k ≤ length old
+    → every (known starts) (take k new) ≡ true → Held starts old new (entered_by dynamic h k (get_or new 0 0))
 unfolding entered_by
-held-entered starts m old new dynamic h k s e f = go dynamic
+held-entered starts old new dynamic h k s e f = go dynamic
   where
-    line : Held starts m old new (Bucket h k)
+    line : Held starts old new (Bucket h k)
     line = record { front = refl; within = e; offsets = f }
 
     head : (l : List ℕ) → 1 ≤ length l → take 1 l ≡ get_or l 0 0 ∷ []
     head [] z = absurd (omega arith)
     head (x ∷ l) z = refl
 
-    one : (b : Bool) → eqb k 1 ≡ b → Held starts m old new (cond b (Single h (get_or new 0 0)) (Bucket h k))
+    one : (b : Bool) → eqb k 1 ≡ b → Held starts old new (cond b (Single h (get_or new 0 0)) (Bucket h k))
     one true z =
         let n : k ≡ 1 = eqb-true k 1 z in
         record {
@@ -202,6 +199,6 @@ held-entered starts m old new dynamic h k s e f = go dynamic
         }
     one false z = line
 
-    go : (b : Bool) → Held starts m old new (cond b (Bucket h k) (cond (eqb k 1) (Single h (get_or new 0 0)) (Bucket h k)))
+    go : (b : Bool) → Held starts old new (cond b (Bucket h k) (cond (eqb k 1) (Single h (get_or new 0 0)) (Bucket h k)))
     go true = line
     go false = one (eqb k 1) refl

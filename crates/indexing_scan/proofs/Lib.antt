@@ -18,3 +18,4 @@ pub mod PlaceLaws
 pub mod Walked
 pub mod Doubled
 pub mod Called
+mod GroupCodes

@@ -2,13 +2,13 @@
 -- Assumes nothing.
 use mathlib.Core.Path.{◌≡◌, refl, sym, ap, ap₂, ◌∙◌}
 use mathlib.Core.Bool.{Bool, true, false, cond}
-use mathlib.Core.List.{List, [], ◌∷◌, ◌++◌}
+use mathlib.Core.List.{List, [], ◌∷◌, ◌++◌, append-nil}
 use Prim.Native.Nat.{ℕ, suc, ◌+◌, ◌-◌, ◌≤◌, ◌<◌}
 use native.Mathlib.Nat.{add-zero}
 use native.Mathlib.Numerals.{add-one}
 use native.Mathlib.Omega.{arith}
 use lib.Dec.{eqb}
-use lib.ListN.{length, get_or, take, drop, set}
+use lib.ListN.{length, get_or, take, drop, set, drop_of_length-le}
 use lib.Seq.{slice, slice_empty, slice-cons, length-slice, length-take-le, take-suc, drop-cons, drop-append-le, append_snoc, set_at}
 use Rattle.records.specs.declared.Rec.{Rec}
 use Rattle.records.specs.Records.{zero_rec}
@@ -129,6 +129,9 @@ copied_more l q d i r h k e =
     ∙ ap (λ (x : ℕ). words_of w ++ (r.word ∷ []) ++ drop x d) (add-one i)
     ∙ append_snoc (words_of w) r.word (drop (suc i) d))
 
-pub copied-end : (l : List Rec) (q : ℕ) (d : List ℕ) (i k : ℕ) → i ≡ k → copied l q d i ≡ words_of (slice q (q + k) l) ++ drop k d
+pub copied-end : (l : List Rec) (q : ℕ) (d : List ℕ) (i : ℕ) → i ≡ length d → copied l q d i ≡ words_of (slice q (q + length d) l)
 unfolding copied
-copied-end l q d i k e = ap (copied l q d) e
+copied-end l q d i e =
+    ap (copied l q d) e
+    ∙ ap (λ (x : List ℕ). words_of (slice q (q + length d) l) ++ x) (drop_of_length-le d (omega arith))
+    ∙ append-nil (words_of (slice q (q + length d) l))

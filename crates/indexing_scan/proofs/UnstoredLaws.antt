@@ -2,15 +2,15 @@
 -- bucket that section 5 chooses in the switch on that argument.
 -- Assumes nothing.
 use mathlib.Core.Path.{◌≡◌, refl, sym, ap, ap₂, ◌∙◌, subst}
-use mathlib.Core.Bool.{Bool, true, false, cond, not, ◌||◌}
-use mathlib.Core.List.{List, [], ◌∷◌}
+use mathlib.Core.Bool.{Bool, true, false, cond, ◌||◌}
+use mathlib.Core.List.{List, [], ◌∷◌, ◌++◌}
 use mathlib.Core.Option.{none, some}
 use Prim.Native.Nat.{ℕ, zero, suc, ◌+◌, ◌-◌, ◌≤◌, ◌<◌}
 use native.Mathlib.Omega.{arith}
-use lib.ListN.{length, take, get_or}
+use lib.ListN.{length, take, drop, get_or, length-append, length-drop}
 use lib.Seq.{length-take-le}
+use Rattle.std.proofs.lemmas.List.{take-append-le}
 use native.Mathlib.Numerals.{add-one}
-use borrow.Author.Tests.{not-true, not-false}
 use Rattle.indexing_iter.specs.declared.OptArgIndexKey.{OptArgIndexKey as Key}
 use Rattle.indexing_iter.specs.Clauses.{known}
 use Rattle.indexing_iter.specs.Keys.{is_open}
@@ -19,11 +19,14 @@ use Rattle.indexing.specs.Lines.{dead}
 use Rattle.indexing.specs.Build.{Program, single, open_at, new_table, virtual}
 use Rattle.indexing.proofs.Tests.{and-true}
 use Rattle.indexing_scan.specs.Agree.{Call}
-use Rattle.indexing_scan.specs.Calls.{case_number}
+use Rattle.indexing_scan.specs.Cases.{ending_of}
+use Rattle.indexing_scan.specs.declared.case.Case.{Case as Ending}
+use Rattle.indexing_scan.specs.declared.case.Case.TheVariants.{Fail, External, Sequence}
 use Rattle.indexing_scan.specs.ByArgument.{act, move_on, move, answer_from}
 use Rattle.indexing_scan.specs.Walk.{Step, choose, Move, skip, stop, pass, unstored, sequence, Answer, look, enter}
 use Rattle.indexing_scan.specs.Walk.{follow_new, demand}
-use Rattle.indexing_scan.specs.Unstored.{move_of, count_of, held_by, Held, like_to, all_same, any_open, entered_by, empty_by, finished_by}
+use Rattle.indexing_scan.specs.Unstored.{step_number, move_of, count_of, held_by, Held, like_to, all_same, any_open, entered_by, empty_by, finished_by}
+use Rattle.indexing_scan.specs.declared.unstored.Step.TheVariants.{Only, Equal}
 use Rattle.indexing_scan.specs.declared.unstored.Narrowed.{Narrowed}
 use Rattle.indexing_scan.specs.declared.unstored.Narrowed.TheVariants.{NoTable, Passed, Failed, Single, Bucket}
 use Rattle.indexing_scan.proofs.GroupLaws.{choice-empty, choice-one, choice-equal, choice-none}
@@ -38,21 +41,21 @@ module _ (P : Program) (a : ℕ) (os : List ℕ) (q : Key) (bound : is_open q �
 
   pub follow_one : (n : ℕ) (list : List ℕ) → Front (like_to P.key_of true a q os) n list → 0 < n
       → all_same P.key_of a (P.key_of (get_or list 0 0) a) (take n list) ≡ true
-      → move_of (entered_by P.dynamic 4 n (get_or list 0 0)) list ≡ follow_new P (choose P q (virtual P a os))
+      → move_of (entered_by P.dynamic Only n (get_or list 0 0)) list ≡ follow_new P (choose P q (virtual P a os))
   follow_one n list s h e =
       let G : List ℕ = like_to P.key_of true a q os in
-      entered-move P.dynamic 4 n G list s
+      entered-move P.dynamic Only n G list s
       ∙ sym (choice-one P a os q bound (omega (arith, s.count))
       (ap₂ (λ (o : ℕ) (l : List ℕ). all_same P.key_of a (P.key_of o a) l) (sym (front-first G list n s h)) (sym s.front) ∙ e))
 
   pub follow-equal : (n k : ℕ) (list new : List ℕ) → Front (like_to P.key_of true a q os) n list → 0 < n
       → all_same P.key_of a (P.key_of (get_or list 0 0) a) (take n list) ≡ false
       → Front (like_to P.key_of false a q (take n list)) k new → 0 < k
-      → move_of (entered_by P.dynamic 5 k (get_or new 0 0)) new ≡ follow_new P (choose P q (virtual P a os))
+      → move_of (entered_by P.dynamic Equal k (get_or new 0 0)) new ≡ follow_new P (choose P q (virtual P a os))
   follow-equal n k list new s h e t z =
       let G : List ℕ = like_to P.key_of true a q os in
       let B : like_to P.key_of false a q (take n list) ≡ like_to P.key_of false a q G = ap (like_to P.key_of false a q) s.front in
-      entered-move P.dynamic 5 k (like_to P.key_of false a q (take n list)) new t
+      entered-move P.dynamic Equal k (like_to P.key_of false a q (take n list)) new t
       ∙ ap (λ (l : List ℕ). enter 5 (single P.dynamic l) l) B
       ∙ sym (choice-equal P a os q bound (omega (arith, s.count))
       (ap₂ (λ (o : ℕ) (l : List ℕ). all_same P.key_of a (P.key_of o a) l) (sym (front-first G list n s h)) (sym s.front) ∙ e)
@@ -139,15 +142,15 @@ pub record Unmasked (P : Program) (a : ℕ) (os : List ℕ) (t : Bool) : Type 0 
 
 -- and u whether the call is unbound there
 module _ {P : Program} {a : ℕ} {os : List ℕ} {t : Bool} (x : Unmasked P a os t) (q : Key) where
-  pub move-none : t ≡ true → not P.extensible ≡ true → skip ≡ move P [] (unstored os) a q
-  move-none e f = sym (move-is P a q os ∙ rw (x.is, ← x.opens, e, not-true P.extensible f) refl)
+  pub move-none : t ≡ true → P.extensible ≡ false → skip ≡ move P [] (unstored os) a q
+  move-none e f = sym (move-is P a q os ∙ rw (x.is, ← x.opens, e, f) refl)
 
   module _ (u : Bool) (unbound : u ≡ is_open q) where
-    pub move-dead : t ≡ true → not P.extensible ≡ false → u ≡ false → pass 2 ≡ move P [] (unstored os) a q
-    move-dead e f g = sym (move-is P a q os ∙ rw (x.is, ← x.opens, e, not-false P.extensible f, ← unbound, g) refl)
+    pub move-dead : t ≡ true → P.extensible ≡ true → u ≡ false → pass 2 ≡ move P [] (unstored os) a q
+    move-dead e f g = sym (move-is P a q os ∙ rw (x.is, ← x.opens, e, f, ← unbound, g) refl)
 
-    pub move-over : t ≡ true → not P.extensible ≡ false → u ≡ true → pass 1 ≡ move P [] (unstored os) a q
-    move-over e f g = sym (move-is P a q os ∙ rw (x.is, ← x.opens, e, not-false P.extensible f, ← unbound, g) refl)
+    pub move-over : t ≡ true → P.extensible ≡ true → u ≡ true → pass 1 ≡ move P [] (unstored os) a q
+    move-over e f g = sym (move-is P a q os ∙ rw (x.is, ← x.opens, e, f, ← unbound, g) refl)
 
     pub move-unbound : t ≡ false → u ≡ true → pass 1 ≡ move P [] (unstored os) a q
     move-unbound e f = sym (move-is P a q os ∙ rw (x.is, ← x.opens, e, ← unbound, f) refl)
@@ -175,7 +178,7 @@ goes-look A n s S g = record { kind = g.kind; offsets = g.offsets; path = omega 
 pub goes-start : (A : Answer) → Goes A 0 A
 goes-start A = record { kind = refl; offsets = refl; path = omega arith }
 
-finished-ext : (A : Answer) (x y z : ℕ) → case_number A.kind ≡ x → length A.offsets ≡ y → length A.path ≡ z
+finished-ext : (A : Answer) (x : Ending) (y z : ℕ) → ending_of A.kind ≡ x → length A.offsets ≡ y → length A.path ≡ z
     → record { case = x; count = y; tables = z } ≡ finished_by A
 finished-ext A x y z e f g = λ i. record { case = sym e i; count = sym f i; tables = sym g i }
 
@@ -195,8 +198,8 @@ module _ (P : Program) (Q : Call) where
   abbrev pub Stepped : Answer → ℕ → ℕ → ℕ → List ℕ → Narrowed → Type 0
   Stepped A n b m list NoTable = Goes A n (answer_at (b + 1) (take m list))
   Stepped A n b m list (Passed h) = Goes A (n + 1) (answer_at (b + 1) (take m list))
-  Stepped A n b m list Failed = (record { case = 1; count = 0; tables = n + 1 } ≡ finished_by A) × (take 0 list ≡ A.offsets)
-  Stepped A n b m list (Single h o) = (record { case = 2; count = 1; tables = n + 1 } ≡ finished_by A) × (take 1 list ≡ A.offsets)
+  Stepped A n b m list Failed = (record { case = Fail; count = 0; tables = n + 1 } ≡ finished_by A) × (take 0 list ≡ A.offsets)
+  Stepped A n b m list (Single h o) = (record { case = External; count = 1; tables = n + 1 } ≡ finished_by A) × (take 1 list ≡ A.offsets)
   Stepped A n b m list (Bucket h k) = Goes A (n + 1) (answer_at (b + 1) (take k list))
 
   stepped : (A : Answer) (n b m : ℕ) (os list : List ℕ) (r : Narrowed) → take (count_of m r) list ≡ held_by r os list
@@ -205,63 +208,73 @@ module _ (P : Program) (Q : Call) where
   unfolding answer_at
   stepped A n b m os list NoTable e g = rw e g
   stepped A n b m os list (Passed h) e g =
-      rw e (goes-look A n (record { did = h; arg = b }) (answer_from P Q (P.arity + 1 - (b + 1)) (b + 1) [] (unstored os)) g)
+      rw e (goes-look A n (record { did = step_number h; arg = b }) (answer_from P Q (P.arity + 1 - (b + 1)) (b + 1) [] (unstored os)) g)
   stepped A n b m os list Failed e g =
-      (finished-ext A 1 0 (n + 1) (ap case_number g.kind) (ap length g.offsets) g.path, sym g.offsets)
+      (finished-ext A Fail 0 (n + 1) (ap ending_of g.kind) (ap length g.offsets) g.path, sym g.offsets)
   stepped A n b m os list (Single h o) e g =
-      (finished-ext A 2 1 (n + 1) (ap case_number g.kind) (ap length g.offsets) g.path, e ∙ sym g.offsets)
+      (finished-ext A External 1 (n + 1) (ap ending_of g.kind) (ap length g.offsets) g.path, e ∙ sym g.offsets)
   stepped A n b m os list (Bucket h k) e g =
-      goes-look A n (record { did = h; arg = b }) (answer_from P Q (P.arity + 1 - (b + 1)) (b + 1) [] (unstored (take k list))) g
+      goes-look A n (record { did = step_number h; arg = b }) (answer_from P Q (P.arity + 1 - (b + 1)) (b + 1) [] (unstored (take k list))) g
 
-  pub goes_step : (starts : List ℕ) (A : Answer) (n b m : ℕ) (old new : List ℕ) (q : Key) (r : Narrowed)
-      → Goes A n (answer_at b (take m old)) → b ≤ P.arity → q ≡ Q b → move_of r new ≡ move P [] (unstored (take m old)) b q → Held starts m old new r → Stepped A n b m new r
-  goes_step starts A n b m old new q r g h e f s =
-      stepped A n b m (take m old) new r s.front
+  pub goes_step : (starts : List ℕ) (A : Answer) (n b m : ℕ) (list new : List ℕ) (q : Key) (r : Narrowed) → m ≤ length list
+      → Goes A n (answer_at b (take m list)) → b ≤ P.arity → q ≡ Q b → move_of r new ≡ move P [] (unstored (take m list)) b q
+      → Held starts (take m list) new r → Stepped A n b m new r
+  goes_step starts A n b m list new q r k g h e f s =
+      let os : List ℕ = take m list in
+      stepped A n b m os new r (ap (λ (x : ℕ). take (count_of x r) new) (sym (length-take-le m list k)) ∙ s.front)
       (subst (λ (S : Answer). Goes A n S)
-      (answer-step b (take m old) h
-      ∙ ap (λ (v : Move). act (λ r. r) look b (unstored (take m old)) v (λ p. answer_from P Q (P.arity + 1 - (b + 1)) (b + 1) [] p))
-      (ap (move P [] (unstored (take m old)) b) (sym e) ∙ sym f)) g)
+      (answer-step b os h
+      ∙ ap (λ (v : Move). act (λ r. r) look b (unstored os) v (λ p. answer_from P Q (P.arity + 1 - (b + 1)) (b + 1) [] p))
+      (ap (move P [] (unstored os) b) (sym e) ∙ sym f)) g)
 
   -- no argument is left
   pub goes_end : (A : Answer) (n b m : ℕ) (list : List ℕ) → Goes A n (answer_at b (take m list)) → P.arity < b → m ≤ length list
-      → (record { case = 3; count = m; tables = n } ≡ finished_by A) × (take m list ≡ A.offsets)
+      → (record { case = Sequence; count = m; tables = n } ≡ finished_by A) × (take m list ≡ A.offsets)
   unfolding answer_at answer_from
   goes_end A n b m list g h k =
       let z : P.arity + 1 - b ≡ 0 = omega arith in
       let e : answer_from P Q (P.arity + 1 - b) b [] (unstored (take m list)) ≡ record { kind = sequence; offsets = take m list; path = [] } =
       ap (λ (x : ℕ). answer_from P Q x b [] (unstored (take m list))) z in
       let s = subst (λ (S : Answer). Goes A n S) e g in
-      (finished-ext A 3 m n (ap case_number s.kind) (ap length s.offsets ∙ length-take-le m list k) (s.path ∙ omega arith), sym s.offsets)
+      (finished-ext A Sequence m n (ap ending_of s.kind) (ap length s.offsets ∙ length-take-le m list k) (s.path ∙ omega arith), sym s.offsets)
 
   pub goes_first : (a : ℕ) (os : List ℕ) → Goes (answer_from P Q (P.arity + 1 - a) a [] (unstored os)) 0 (answer_at a os)
   unfolding answer_at
   goes_first a os = goes-start (answer_from P Q (P.arity + 1 - a) a [] (unstored os))
 
 -- the answer A from argument a on in a line of m clauses, worked out up to argument b: the clauses left stand at the front of a list as long as before
-pub record Finishing (P : Program) (Q : Call) (starts : List ℕ) (A : Answer) (a m long : ℕ) (list : List ℕ) (count tables b : ℕ) : Type 0 where
+pub record Finishing (P : Program) (Q : Call) (starts : List ℕ) (A : Answer) (a m : ℕ) (list : List ℕ) (count tables b : ℕ) : Type 0 where
   pub goes : Goes A tables (answer_at P Q b (take count list))
   pub first : 1 ≤ b
   pub last : b ≤ P.arity + 1
   pub few : tables + a ≤ b
   pub fits : count ≤ length list
-  pub same : length list ≡ long
+  pub same : length list ≡ m
   pub offsets : every (known starts) (take count list) ≡ true
   pub small : P.arity ≤ 32
-  pub fewer : count ≤ m
 
--- after one argument more
-pub finishing-next : {P : Program} {Q : Call} {starts : List ℕ} {A : Answer} {a m long : ℕ} {list : List ℕ} {count tables b : ℕ}
-    → Finishing P Q starts A a m long list count tables b → b ≤ P.arity → (new : List ℕ) → length new ≡ length list → (k n : ℕ)
+-- what stands in the first m clauses of the list after an answer: no more than m, each with a known offset
+pub held-front : (starts : List ℕ) (m : ℕ) (list new : List ℕ) (r : Narrowed) → m ≤ length list → Held starts (take m list) new r
+    → (count_of m r ≤ m) × (every (known starts) (take (count_of m r) new) ≡ true)
+held-front starts m list new r k s =
+    let n : length (take m list) ≡ m = length-take-le m list k in
+    (subst (λ (x : ℕ). count_of x r ≤ x) n s.within, subst (λ (x : ℕ). every (known starts) (take (count_of x r) new) ≡ true) n s.offsets)
+
+-- after one argument more, the clauses at the front being new
+pub finishing-next : {P : Program} {Q : Call} {starts : List ℕ} {A : Answer} {a m : ℕ} {list : List ℕ} {count tables b : ℕ}
+    → Finishing P Q starts A a m list count tables b → b ≤ P.arity → (new : List ℕ) → length new ≡ count → (k n : ℕ)
     → Goes A n (answer_at P Q (b + 1) (take k new)) → k ≤ count → n ≤ tables + 1 → every (known starts) (take k new) ≡ true
-    → Finishing P Q starts A a m long new k n (b + 1)
-finishing-next s h new e k n g x y o = record {
-  goes = g;
-  first = omega arith;
-  last = omega arith;
-  few = omega (arith, s.few);
-  fits = omega (arith, s.fits);
-  same = e ∙ s.same;
-  offsets = o;
-  small = s.small;
-  fewer = omega (arith, s.fewer);
-}
+    → Finishing P Q starts A a m (new ++ drop count list) k n (b + 1)
+finishing-next {P} {Q} {starts} {A} {a} {m} {list} {count} {tables} {b} s h new e k n g x y o =
+    let long : length (new ++ drop count list) ≡ length list = omega (arith, s.fits, length-append new (drop count list), length-drop count list) in
+    let front : take k new ≡ take k (new ++ drop count list) = sym (take-append-le k new (drop count list) (omega arith)) in
+    record {
+      goes = subst (λ (l : List ℕ). Goes A n (answer_at P Q (b + 1) l)) front g;
+      first = omega arith;
+      last = omega arith;
+      few = omega (arith, s.few);
+      fits = omega (arith, s.fits);
+      same = long ∙ s.same;
+      offsets = subst (λ (l : List ℕ). every (known starts) l ≡ true) front o;
+      small = s.small;
+    }

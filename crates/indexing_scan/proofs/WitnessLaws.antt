@@ -1,7 +1,7 @@
 -- The first clause that agrees with a call is a witness.
 -- Assumes nothing.
 use Prim.Native.Nat.{ℕ, suc, ◌+◌, ◌-◌, ◌≤◌, ◌<◌}
-use mathlib.Core.Path.{◌≡◌, refl, ap, ◌∙◌}
+use mathlib.Core.Path.{◌≡◌, refl, ap}
 use mathlib.Core.Bool.{Bool, true, ◌&&◌}
 use mathlib.Core.List.{List, [], ◌∷◌}
 use native.Mathlib.Numerals.{add-one}
@@ -9,18 +9,17 @@ use native.Mathlib.Omega.{arith}
 use lib.ListN.{length, get_or, drop, drop_of_length-le}
 use borrow.Author.Tests.{eq-eqb}
 use Rattle.indexing_iter.specs.declared.Settings.{Settings}
-use Rattle.indexing_iter.specs.declared.Checked.{Checked}
-use Rattle.indexing_iter.specs.declared.Checked.TheVariants.{Passed, Refused}
+use Rattle.indexing_iter.specs.declared.refusal.Refusal.{Refusal}
+use Rattle.indexing_iter.specs.Refusals.{passed}
+use Rattle.std.specs.Prelude.{Option, None, Ok, Err}
 use Rattle.indexing_iter.specs.Clauses.{offsets_of, known}
-use Rattle.indexing_iter.specs.Checks.{number_of, check_code}
+use Rattle.indexing_iter.specs.Checks.{check_code}
 use Rattle.indexing_iter.proofs.CheckLaws.{start-known, code-offset, code-size}
 use Rattle.indexing.specs.Lists.{add, keep}
 use Rattle.indexing.specs.Build.{Program}
-use Rattle.indexing_scan.specs.declared.witness.Witnessed.{Witnessed}
-use Rattle.indexing_scan.specs.declared.witness.Witnessed.TheVariants.{Found, Refused as RefusedBy}
 use Rattle.indexing_scan.specs.Agree.{Call, agree_at, agree_from}
-use Rattle.indexing_scan.specs.Calls.{check_call, witness_checks, agreeing, is_witness}
-use Rattle.indexing_scan.specs.Witness.{Witnesses, first_of}
+use Rattle.indexing_scan.specs.Calls.{check_call, witness_checks, agreeing}
+use Rattle.indexing_scan.specs.Witness.{IsWitness, Witnesses, first_of}
 use Rattle.indexing_scan.proofs.CallLaws.{rest-step}
 
 -- ---- a clause, argument by argument
@@ -51,45 +50,42 @@ pub first_step : (t : ℕ → Bool) (starts : List ℕ) (i : ℕ) → i < length
     → first_of (keep t (offsets_of (drop i starts))) ≡ first_of (add (t (get_or starts i 0 + 1)) (get_or starts i 0 + 1) (keep t (offsets_of (drop (i + 1) starts))))
 first_step t starts i h = rw (add-one (get_or starts i 0)) (ap (λ (l : List ℕ). first_of (keep t (offsets_of l))) (rest-step starts i 0 h))
 
-pub first_done : (t : ℕ → Bool) (starts : List ℕ) (i : ℕ) → length starts ≤ i → first_of (keep t (offsets_of (drop i starts))) ≡ 0
+pub first_done : (t : ℕ → Bool) (starts : List ℕ) (i : ℕ) → length starts ≤ i → first_of (keep t (offsets_of (drop i starts))) ≡ None
 first_done t starts i h = ap (λ (l : List ℕ). first_of (keep t (offsets_of l))) (drop_of_length-le starts h)
 
-pub first-witness : (os : List ℕ) → is_witness os (first_of os) ≡ true
+pub first-witness : (os : List ℕ) → IsWitness os (first_of os)
 first-witness [] = refl
 first-witness (o ∷ os) = rw (eq-eqb o o refl) refl
 
 -- ---- the answer
 
-refused_as : (c : Checked) (n : ℕ) (os : List ℕ) (w : Witnessed) → c ≡ Refused n → w ≡ RefusedBy (number_of c) → Witnesses c os w
-refused_as c n os w e f = rw (f, e) (refl, refl, refl)
-
-found_as : (os : List ℕ) (o : ℕ) → o ≡ first_of os → Witnesses Passed os (Found o)
-found_as os o e = (refl, refl, ap (is_witness os) e ∙ first-witness os)
+found_as : (os : List ℕ) (o : Option ℕ) → o ≡ first_of os → Witnesses passed os (Ok o)
+found_as os o e = (o, refl, rw e (first-witness os))
 
 -- ---- the offset of a clause
 
-pub clause-offset : (cls : ℕ → ℕ) (arity : ℕ) (code starts : List ℕ) (i : ℕ) → check_code cls arity code starts ≡ Passed → i < length starts
+pub clause-offset : (cls : ℕ → ℕ) (arity : ℕ) (code starts : List ℕ) (i : ℕ) → check_code cls arity code starts ≡ passed → i < length starts
     → (known starts (get_or starts i 0 + 1) ≡ true) × (get_or starts i 0 + 1 ≤ 32768)
 clause-offset cls arity code starts i e h =
     let k : known starts (suc (get_or starts i 0)) ≡ true = start-known starts i h in
     let r = code-offset cls arity code starts (suc (get_or starts i 0)) e k in
     (rw (add-one (get_or starts i 0)) k, omega (arith, r.1, (code-size cls arity code starts e).1))
 
--- ---- the checks one after the other: x and y are what they answered
+-- ---- the checks one after the other
 
-module _ (cls : ℕ → ℕ) (code starts : List ℕ) (S : Settings) (call : List ℕ) (x : Checked) (first : x ≡ check_code cls S.arity code starts) where
-  pub refused-first : (n : ℕ) (w : Witnessed) → x ≡ Refused n → w ≡ RefusedBy (number_of x)
-      → Witnesses (witness_checks cls code starts S call) (agreeing cls code starts S call) w
+module _ (cls : ℕ → ℕ) (code starts : List ℕ) (S : Settings) (call : List ℕ) where
+  pub refused-first : (e : Refusal) → check_code cls S.arity code starts ≡ Err e
+      → Witnesses (witness_checks cls code starts S call) (agreeing cls code starts S call) (Err e)
   unfolding witness_checks
-  refused-first n w e f = rw (← first, e) (rw e at (refused_as x n (agreeing cls code starts S call) w e f))
+  refused-first e f = rw f refl
 
-  module _ (passed : x ≡ Passed) (y : Checked) (next : y ≡ check_call S.arity call) where
-    pub refused-next : (n : ℕ) (w : Witnessed) → y ≡ Refused n → w ≡ RefusedBy (number_of y)
-        → Witnesses (witness_checks cls code starts S call) (agreeing cls code starts S call) w
+  module _ (first : check_code cls S.arity code starts ≡ passed) where
+    pub refused-next : (e : Refusal) → check_call S.arity call ≡ Err e
+        → Witnesses (witness_checks cls code starts S call) (agreeing cls code starts S call) (Err e)
     unfolding witness_checks
-    refused-next n w e f = rw (← first, passed, ← next) (refused_as y n (agreeing cls code starts S call) w e f)
+    refused-next e f = rw (first, f) refl
 
-    pub found_first : (o : ℕ) → y ≡ Passed → o ≡ first_of (agreeing cls code starts S call)
-        → Witnesses (witness_checks cls code starts S call) (agreeing cls code starts S call) (Found o)
+    pub found_first : (o : Option ℕ) → check_call S.arity call ≡ passed → o ≡ first_of (agreeing cls code starts S call)
+        → Witnesses (witness_checks cls code starts S call) (agreeing cls code starts S call) (Ok o)
     unfolding witness_checks
-    found_first o e f = rw (← first, passed, ← next, e) (found_as (agreeing cls code starts S call) o f)
+    found_first o e f = rw (first, e) (found_as (agreeing cls code starts S call) o f)

@@ -4,8 +4,9 @@ use Rattle.std.specs.Prelude.{ℕ, ◌-◌, ◌*◌, Bool, cond, not, ◌&&◌, 
 use Rattle.records.specs.declared.Rec.{Rec}
 use Rattle.records.specs.Records.{records_of, zero_rec}
 use Rattle.indexing_iter.specs.declared.Settings.{Settings}
-use Rattle.indexing_iter.specs.declared.Checked.{Checked}
-use Rattle.indexing_iter.specs.declared.Checked.TheVariants.{Passed, Refused}
+use Rattle.indexing_iter.specs.declared.refusal.Refusal.TheVariants.{Call as CallOf, Out, Index as IndexOf}
+use Rattle.indexing_iter.specs.Refusals.{Checked, refusal_number}
+use Rattle.std.specs.Prelude.{Ok, Err}
 use Rattle.indexing_iter.specs.Clauses.{offsets_of, known}
 use Rattle.indexing_iter.specs.Checks.{otherwise, refuse, check_code}
 use Rattle.indexing.specs.Lists.{keep, any_of, every}
@@ -28,7 +29,7 @@ argument_ok r =
 
 -- 10: call not arity records, sort above 5, used field wrong or unused field not 0; structure arity outside 1..255
 abbrev pub check_call : ℕ → List ℕ → Checked
-check_call arity call = refuse (not (eqb (length call) (16 * arity) && every argument_ok (records_of call))) 10
+check_call arity call = refuse (not (eqb (length call) (16 * arity) && every argument_ok (records_of call))) CallOf
 
 -- section 5: the key of each argument, counted from 1
 unfoldable pub call_of : List ℕ → Call
@@ -36,12 +37,12 @@ call_of call a = let r = get_or (records_of call) (a - 1) zero_rec in key_from r
 
 -- 11: out shorter than the starts
 abbrev pub check_out : List ℕ → List ℕ → Checked
-check_out starts out = refuse (ltb (length out) (length starts)) 11
+check_out starts out = refuse (ltb (length out) (length starts)) Out
 
 -- 12: index not well formed: the record count within capacity, and the records within it
 abbrev pub check_index : Settings → List ℕ → List ℕ → ℕ → Checked
 check_index S starts index count =
-    refuse (not (leb count (capacity_of index) && well_formed S.arity S.dynamic (known starts) (take count (records_of index)))) 12
+    refuse (not (leb count (capacity_of index) && well_formed S.arity S.dynamic (known starts) (take count (records_of index)))) IndexOf
 
 -- what a walk gives back: the refusal's number (0: accepted), case, line number, count, tables looked at, mark (0 stored, 1 unstored), new record count; index and out at the end
 pub record Walked : Type 0 where
@@ -64,9 +65,9 @@ case_number variadic = 4
 
 -- a refusal gives its number and zero in every other field, and leaves index and out; out's rest is untouched
 abbrev pub walked_by : Checked → Settings → Result → List ℕ → List ℕ → Walked
-walked_by (Refused n) S r index out =
-    record { number = n; case = 0; line = 0; count = 0; tables = 0; mark = 0; records = 0; index = index; out = out }
-walked_by Passed S r index out =
+walked_by (Err e) S r index out =
+    record { number = refusal_number e; case = 0; line = 0; count = 0; tables = 0; mark = 0; records = 0; index = index; out = out }
+walked_by (Ok u) S r index out =
     record {
       number = 0;
       case = case_number r.found.kind;

@@ -2,6 +2,8 @@ pub mod Agree
 pub mod Walk
 pub mod ByArgument
 pub mod Calls
+pub mod Cases
 pub mod Unstored
 pub mod Witness
 pub mod Places
+pub mod Tests

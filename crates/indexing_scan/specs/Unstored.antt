@@ -5,19 +5,28 @@ use Rattle.indexing_iter.specs.declared.OptArgIndexKey.{OptArgIndexKey as Key}
 use Rattle.indexing_iter.specs.Keys.{group_of, is_open, same}
 use Rattle.indexing_iter.specs.Clauses.{known}
 use Rattle.indexing.specs.Lists.{keep, any_of, every}
+use Rattle.indexing_scan.specs.declared.unstored.Step.{Step}
+use Rattle.indexing_scan.specs.declared.unstored.Step.TheVariants.{Unbound, Dead, Only, Equal}
 use Rattle.indexing_scan.specs.declared.unstored.Narrowed.{Narrowed}
 use Rattle.indexing_scan.specs.declared.unstored.Narrowed.TheVariants.{NoTable, Passed, Failed, Single, Bucket}
 use Rattle.indexing_scan.specs.declared.unstored.Finished.{Finished}
 use Rattle.indexing_scan.specs.Walk.{Move, skip, stop, pass, out, goto, unstored, Answer}
-use Rattle.indexing_scan.specs.Calls.{case_number}
+use Rattle.indexing_scan.specs.Cases.{ending_of}
+
+-- section 5, the number of a step: 1 unbound, 2 dead, 4 the only entry of the group, 5 the equal key among several
+abbrev pub step_number : Step → ℕ
+step_number Unbound = 1
+step_number Dead = 2
+step_number Only = 4
+step_number Equal = 5
 
 -- section 5: the move of an answer, a bucket's clauses standing at the front of the list
 abbrev pub move_of : Narrowed → List ℕ → Move
 move_of NoTable list = skip
-move_of (Passed h) list = pass h
+move_of (Passed h) list = pass (step_number h)
 move_of Failed list = stop
-move_of (Single h o) list = out h o
-move_of (Bucket h k) list = goto h (unstored (take k list))
+move_of (Single h o) list = out (step_number h) o
+move_of (Bucket h k) list = goto (step_number h) (unstored (take k list))
 
 -- how many clauses stand at the front of the list after an answer, of m before it
 abbrev pub count_of : ℕ → Narrowed → ℕ
@@ -36,10 +45,10 @@ held_by (Single h o) os list = o ∷ []
 held_by (Bucket h k) os list = take k list
 
 -- what stands in the list after an answer: those clauses at its front, no more of them than before, each with a known offset
-pub record Held (starts : List ℕ) (m : ℕ) (old new : List ℕ) (r : Narrowed) : Type 0 where
-  pub front : take (count_of m r) new ≡ held_by r (take m old) new
-  pub within : count_of m r ≤ m
-  pub offsets : every (known starts) (take (count_of m r) new) ≡ true
+pub record Held (starts : List ℕ) (old new : List ℕ) (r : Narrowed) : Type 0 where
+  pub front : take (count_of (length old) r) new ≡ held_by r old new
+  pub within : count_of (length old) r ≤ length old
+  pub offsets : every (known starts) (take (count_of (length old) r) new) ≡ true
 
 -- some clause has no key at argument a
 unfoldable pub any_open : (ℕ → ℕ → Key) → ℕ → List ℕ → Bool
@@ -59,13 +68,13 @@ unfoldable pub all_same : (ℕ → ℕ → Key) → ℕ → Key → List ℕ →
 all_same K a k os = every (λ o. same (K o a) k) os
 
 -- a bucket of k clauses, o the first: an external pointer if it is one clause of a static line, else a line
-unfoldable pub entered_by : Bool → ℕ → ℕ → ℕ → Narrowed
+unfoldable pub entered_by : Bool → Step → ℕ → ℕ → Narrowed
 entered_by dynamic h k o = cond dynamic (Bucket h k) (cond (eqb k 1) (Single h o) (Bucket h k))
 
 -- no clause of the group of q: Fail, but the dynamic list is a line even if empty
 unfoldable pub empty_by : Bool → Key → Narrowed
-empty_by dynamic q = cond (dynamic && eqb (group_of q) 2) (Bucket 4 0) Failed
+empty_by dynamic q = cond (dynamic && eqb (group_of q) 2) (Bucket Only 0) Failed
 
--- an answer by its case number, the number of its offsets and of the tables looked at
+-- an answer by its case, the number of its offsets and of the tables looked at
 abbrev pub finished_by : Answer → Finished
-finished_by r = record { case = case_number r.kind; count = length r.offsets; tables = length r.path }
+finished_by r = record { case = ending_of r.kind; count = length r.offsets; tables = length r.path }

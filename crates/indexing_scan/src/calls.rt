@@ -5,7 +5,8 @@ ghost use Rattle.indexing.specs.Lists.{every};
 ghost use Rattle.indexing.specs.Reading.{key_from};
 ghost use Rattle.indexing_scan.specs.Calls.{argument_ok, check_call, call_of, check_out};
 
-use indexing_iter::{Checked, OptArgIndexKey};
+use indexing_iter::OptArgIndexKey;
+use indexing_iter::refusal::Refusal;
 use records::Rec;
 
 // Whether the record of an argument is right: all zero if unbound, else the sort's own fields and no others.
@@ -13,94 +14,60 @@ use records::Rec;
 fn argument_ok(r: Rec) -> bool
     ensures { result ≡ argument_ok r }
 {
-    let kind = r.kind;
-    let sub = r.sub;
-    let half = r.half;
-    let word = r.word;
-    let long = r.long;
-    if kind != 0 {
-        return false;
-    }
-    if word != 0 {
-        return false;
-    }
-    if sub == 0 {
-        if half != 0 {
-            return false;
+    r.kind == 0
+        && r.word == 0
+        && match r.sub {
+            0 => r.half == 0 && r.long == 0,
+            1..=3 => r.half == 0,
+            4 => 1 <= r.half && r.half <= 255,
+            5 => r.half == 0 && r.long == 0,
+            _ => false,
         }
-        return long == 0;
-    }
-    if sub <= 3 {
-        return half == 0;
-    }
-    if sub == 4 {
-        if half < 1 {
-            return false;
-        }
-        return half <= 255;
-    }
-    if sub != 5 {
-        return false;
-    }
-    if half != 0 {
-        return false;
-    }
-    long == 0
 }
 
 // Whether every record of a call is right.
 fn arguments_ok(call: &[u8]) -> bool
     ensures { result ≡ every argument_ok (records_of call.now) }
 {
-    let n = records::capacity(call);
-    let mut i = 0;
-    while i < n {
-        let r = records::get(call, i);
-        if !argument_ok(r) {
+    for i in 0..records::capacity(call) {
+        if !argument_ok(records::get(call, i)) {
             return false;
         }
-        i += 1;
     }
     true
 }
 
 // 10: call not arity records, or a record that is not right.
-pub fn check_call(call: &[u8], arity: u32) -> Checked
+pub fn check_call(call: &[u8], arity: u32) -> Result<(), Refusal>
     ensures { result ≡ check_call arity call.now }
 {
-    if call.len() != 16 * (arity as usize) {
-        return Checked::Refused(10);
+    if call.len() == 16 * (arity as usize) && arguments_ok(call) {
+        Ok(())
+    } else {
+        Err(Refusal::Call)
     }
-    if arguments_ok(call) {
-        return Checked::Passed;
-    }
-    Checked::Refused(10)
 }
 
 // 11: out shorter than the starts.
-pub fn check_out(starts: &[u32], out: &[u32]) -> Checked
+pub fn check_out(starts: &[u32], out: &[u32]) -> Result<(), Refusal>
     ensures { result ≡ check_out starts.now out.now }
 {
     if out.len() < starts.len() {
-        return Checked::Refused(11);
+        return Err(Refusal::Out);
     }
-    Checked::Passed
+    Ok(())
 }
 
 // A key by its sort, arity and bits.
 pub fn key_from(sub: u8, half: u16, long: u64) -> OptArgIndexKey
     ensures { result ≡ key_from sub half long }
 {
-    if sub == 0 {
-        return OptArgIndexKey::None;
+    match sub {
+        0 => OptArgIndexKey::None,
+        4 => OptArgIndexKey::Structure(half, long),
+        5 => OptArgIndexKey::List,
+        _ => OptArgIndexKey::Literal(u16::from(sub), long),
     }
-    if sub == 4 {
-        return OptArgIndexKey::Structure(half, long);
-    }
-    if sub == 5 {
-        return OptArgIndexKey::List;
-    }
-    OptArgIndexKey::Literal(sub as u16, long)
 }
 
 // The key of argument a of a call, none where it is unbound.

@@ -3,6 +3,8 @@
 #![tactic(auto)]
 
 pub mod calls;
+pub mod case;
 pub mod stored;
+pub mod stored_index;
 pub mod unstored;
 pub mod witness;

@@ -1,12 +1,18 @@
 // The way through a stored index: from table to table, from line to line, a line's offsets, and the choice in a switch.
-// n is the number of the index's records; places count records.
-ghost use Rattle.std.specs.Prelude.{◌≡◌, ◌++◌, ◌+◌, ◌≤◌, ◌<◌, length, take, drop};
+// Places count records.
+ghost use Rattle.std.specs.Prelude.{◌≡◌, ◌+◌, ◌≤◌, ◌<◌, Bool, length, take};
 ghost use Rattle.std.proofs.Math.Seq.{slice};
+ghost use Rattle.records.specs.declared.Rec.{Rec};
 ghost use Rattle.records.specs.Records.{records_of};
+ghost use Rattle.indexing_iter.specs.Groups.{group_code};
 ghost use Rattle.indexing.specs.Columns.{words_of};
 ghost use Rattle.indexing_scan.specs.Places.{is_item, is_table, in_run, leaves, up_to, count_of, behind_table, behind_line, first_offset, offsets_at, in_group, has_key, choose_rec};
+ghost use Rattle.indexing_scan.specs.Tests.{Computes};
 
+use crate::stored_index::Stored;
+use indexing::kinds::Kind;
 use indexing_iter::OptArgIndexKey;
+use indexing_iter::group::Group;
 use records::Rec;
 
 // Runs of records: the entries or dead clauses of one table, tables with theirs, the offsets of a line.
@@ -29,23 +35,17 @@ pub enum Chosen {
 fn is_item(kind: u8) -> bool
     ensures { result ≡ is_item kind }
 {
-    if kind == 5 {
-        return true;
-    }
-    kind == 7
+    matches!(Kind::try_from(kind), Ok(Kind::Entry | Kind::DeadClause))
 }
 
 // Whether a record of that kind is a table's own.
 pub fn is_table(kind: u8) -> bool
     ensures { result ≡ is_table kind }
 {
-    if kind == 2 {
-        return true;
-    }
-    if kind == 3 {
-        return true;
-    }
-    kind == 4
+    matches!(
+        Kind::try_from(kind),
+        Ok(Kind::Switch | Kind::OnDemand | Kind::Dead)
+    )
 }
 
 fn in_run(run: Run, kind: u8) -> bool
@@ -54,7 +54,7 @@ fn in_run(run: Run, kind: u8) -> bool
     match run {
         Run::Items => is_item(kind),
         Run::Tables => is_table(kind) || is_item(kind),
-        Run::Offsets => kind == 6,
+        Run::Offsets => kind == Kind::Choice as u8,
     }
 }
 
@@ -64,80 +64,84 @@ fn leaves_run(r: Rec, run: Run) -> bool
     !in_run(run, r.kind)
 }
 
-// The place behind the run that starts at p.
-fn run_end(index: &[u8], n: usize, p: usize, run: Run) -> usize
-    requires { (p ≤ n) × (n ≤ length (records_of index.now)) }
-    ensures { (result ≡ p + up_to (leaves run) (slice p n (records_of index.now))) × (result ≤ n) }
+// The place of the first record from one place up to another that passes a test, or the other.
+fn find_record<F: Fn(Rec) -> bool>(index: &[u8], from: usize, to: usize, test: F) -> usize
+    requires calls { F.IsAlwaysCallable test }
+    requires places { (from ≤ to) × (to ≤ length (records_of index.now)) }
+    ensures { (t : Rec → Bool) → Computes (F.post test) t
+        → (result ≡ from + up_to t (slice from to (records_of index.now))) × (result ≤ to) }
 {
-    let mut i = p;
-    while i < n {
-        if leaves_run(records::get(index, i), run) {
-            return i;
+    'found: {
+        for i in from..to {
+            if test(records::get(index, i)) {
+                break 'found i;
+            }
         }
-        i += 1;
+        to
     }
-    i
+}
+
+// The place behind the run that starts at p.
+fn run_end(stored: &Stored, p: usize, run: Run) -> usize
+    requires { p ≤ stored.now.count }
+    ensures { (result ≡ p + up_to (leaves run) (slice p stored.now.count (records_of stored.now.index.now))) × (result ≤ stored.now.count) }
+{
+    find_record(stored.index, p, stored.count, |r| leaves_run(r, run))
 }
 
 // The place behind the table whose record is at p: its entries or dead clauses are passed.
-pub fn skip_items(index: &[u8], n: usize, p: usize) -> usize
-    requires { (p < n) × (n ≤ length (records_of index.now)) }
-    ensures { (result ≡ behind_table (take n (records_of index.now)) p) × (p < result) × (result ≤ n) }
+pub fn skip_items(stored: &Stored, p: usize) -> usize
+    requires { p < stored.now.count }
+    ensures { (result ≡ behind_table (take stored.now.count (records_of stored.now.index.now)) p) × (p < result) × (result ≤ stored.now.count) }
 {
-    run_end(index, n, p + 1, Run::Items)
+    run_end(stored, p + 1, Run::Items)
 }
 
 // The place behind all tables from p on, where the offsets of the line start.
-pub fn first_offset(index: &[u8], n: usize, p: usize) -> usize
-    requires { (p ≤ n) × (n ≤ length (records_of index.now)) }
-    ensures { (result ≡ first_offset (take n (records_of index.now)) p) × (result ≤ n) }
+pub fn first_offset(stored: &Stored, p: usize) -> usize
+    requires { p ≤ stored.now.count }
+    ensures { (result ≡ first_offset (take stored.now.count (records_of stored.now.index.now)) p) × (result ≤ stored.now.count) }
 {
-    run_end(index, n, p, Run::Tables)
+    run_end(stored, p, Run::Tables)
 }
 
 // The number of offsets from q on.
-pub fn count_offsets(index: &[u8], n: usize, q: usize) -> usize
-    requires { (q ≤ n) × (n ≤ length (records_of index.now)) }
-    ensures { (result ≡ offsets_at (take n (records_of index.now)) q) × (q + result ≤ n) }
+pub fn count_offsets(stored: &Stored, q: usize) -> usize
+    requires { q ≤ stored.now.count }
+    ensures { (result ≡ offsets_at (take stored.now.count (records_of stored.now.index.now)) q) × (q + result ≤ stored.now.count) }
 {
-    run_end(index, n, q, Run::Offsets) - q
+    run_end(stored, q, Run::Offsets) - q
 }
 
 // The place behind the d-th line record from p on.
-pub fn to_line(index: &[u8], n: usize, p: usize, d: u32) -> usize
-    requires { (p ≤ n) × (n ≤ length (records_of index.now)) }
-    ensures { (result ≡ behind_line (take n (records_of index.now)) p d) × (result ≤ n) }
+pub fn to_line(stored: &Stored, p: usize, d: u32) -> usize
+    requires { p ≤ stored.now.count }
+    ensures { (result ≡ behind_line (take stored.now.count (records_of stored.now.index.now)) p d) × (result ≤ stored.now.count) }
 {
-    let mut i = p;
     let mut left = d;
-    while i < n {
+    for i in p..stored.count {
         if left == 0 {
             return i;
         }
-        let r = records::get(index, i);
-        if r.kind == 1 {
+        if records::get(stored.index, i).kind == Kind::Line as u8 {
             left -= 1;
         }
-        i += 1;
     }
-    i
+    stored.count
 }
 
-// Copies the words of the k records from q on.
-pub fn copy_offsets(index: &[u8], q: usize, k: usize, out: &mut [u32])
-    requires { (q + k ≤ length (records_of index.now)) × (k ≤ length out.old) }
-    ensures { out.new ≡ words_of (slice q (q + k) (records_of index.now)) ++ drop k out.old }
+// Copies the words of the records from q on, as many as out has places.
+pub fn copy_offsets(index: &[u8], q: usize, out: &mut [u32])
+    requires { q + length out.old ≤ length (records_of index.now) }
+    ensures { out.new ≡ words_of (slice q (q + length out.old) (records_of index.now)) }
 {
-    let mut i = 0;
-    while i < k {
-        let r = records::get(index, q + i);
-        out[i] = r.word;
-        i += 1;
+    for (i, word) in out.iter_mut().enumerate() {
+        *word = records::get(index, q + i).word;
     }
 }
 
-fn in_group(r: Rec, g: u8) -> bool
-    ensures { result ≡ in_group g r }
+fn in_group(r: Rec, g: Option<Group>) -> bool
+    ensures { result ≡ in_group (group_code g) r }
 {
     g == well_formed::forms::group_by_sort(r.sub)
 }
@@ -149,58 +153,21 @@ fn has_key(r: Rec, q: OptArgIndexKey) -> bool
 }
 
 // How many of the entries from one place up to another are of group g.
-fn count_group(index: &[u8], from: usize, to: usize, g: u8) -> usize
+fn count_group(index: &[u8], from: usize, to: usize, g: Option<Group>) -> usize
     requires { (from ≤ to) × (to ≤ length (records_of index.now)) }
-    ensures { result ≡ count_of (in_group g) (slice from to (records_of index.now)) }
+    ensures { result ≡ count_of (in_group (group_code g)) (slice from to (records_of index.now)) }
 {
-    let mut i = from;
     let mut count = 0;
-    while i < to {
+    for i in from..to {
         if in_group(records::get(index, i), g) {
             count += 1;
         }
-        i += 1;
     }
     count
 }
 
-// The place of the first of these entries that is of group g, or to.
-fn find_group(index: &[u8], from: usize, to: usize, g: u8) -> usize
-    requires { (from ≤ to) × (to ≤ length (records_of index.now)) }
-    ensures { (result ≡ from + up_to (in_group g) (slice from to (records_of index.now))) × (result ≤ to) }
-{
-    let mut i = from;
-    loop {
-        if to <= i {
-            break to;
-        }
-        if in_group(records::get(index, i), g) {
-            break i;
-        }
-        i += 1;
-    }
-}
-
-// The place of the first of these entries whose key is equal to q, or to.
-fn find_equal(index: &[u8], from: usize, to: usize, q: OptArgIndexKey) -> usize
-    requires { (from ≤ to) × (to ≤ length (records_of index.now)) }
-    ensures { (result ≡ from + up_to (has_key q) (slice from to (records_of index.now))) × (result ≤ to) }
-{
-    let mut at = from;
-    loop {
-        if to <= at {
-            break to;
-        }
-        if has_key(records::get(index, at), q) {
-            break at;
-        }
-        at += 1;
-    }
-}
-
 // The choice in the switch whose entries stand from one place up to another: no entry of the key's group, nothing; one,
 // that entry whatever its key; more, the equal key.
-#[tactic(auto, using(crate::proofs::ChooseLaws::only_chosen))]
 pub fn choose_entry(index: &[u8], from: usize, to: usize, q: OptArgIndexKey) -> Chosen
     requires { (from ≤ to) × (to ≤ length (records_of index.now)) }
     ensures { result ≡ choose_rec q (slice from to (records_of index.now)) }
@@ -211,13 +178,12 @@ pub fn choose_entry(index: &[u8], from: usize, to: usize, q: OptArgIndexKey) -> 
         return Chosen::Nothing;
     }
     if count == 1 {
-        let only = records::get(index, find_group(index, from, to, g));
-        return Chosen::Only(only.word);
+        let place = find_record(index, from, to, |r| in_group(r, g));
+        return Chosen::Only(records::get(index, place).word);
     }
-    let place = find_equal(index, from, to, q);
+    let place = find_record(index, from, to, |r| has_key(r, q));
     if to <= place {
         return Chosen::Nothing;
     }
-    let equal = records::get(index, place);
-    Chosen::Equal(equal.word)
+    Chosen::Equal(records::get(index, place).word)
 }

@@ -1,51 +1,26 @@
 -- The checks of the walk's call in their order, and its answer.
 -- Assumes nothing.
-use mathlib.Core.Path.{◌≡◌, refl, sym, ap, ap₂, ◌∙◌}
-use mathlib.Core.Bool.{Bool, true, false, cond, not, ◌&&◌}
+use mathlib.Core.Path.{◌≡◌, sym, ap, ap₂, ◌∙◌}
 use mathlib.Core.List.{List}
-use Prim.Native.Nat.{ℕ, ◌≤◌, ◌<◌}
-use lib.Dec.{leb, ltb}
-use lib.ListN.{length, take}
-use borrow.Author.Tests.{le-leb, lt-leb, leb-true, ltb-false, not-false}
-use Rattle.records.specs.Records.{records_of}
+use Prim.Native.Nat.{ℕ}
 use Rattle.indexing_iter.specs.declared.Settings.{Settings}
-use Rattle.indexing_iter.specs.declared.Checked.{Checked}
-use Rattle.indexing_iter.specs.declared.Checked.TheVariants.{Passed, Refused}
+use Rattle.indexing_iter.specs.Refusals.{Checked, passed}
+use Rattle.std.specs.Prelude.{Ok, Err}
+use Rattle.indexing_iter.specs.declared.refusal.Refusal.{Refusal}
 use Rattle.indexing_iter.specs.Classes.{class_of}
-use Rattle.indexing_iter.specs.Clauses.{known}
-use Rattle.indexing_iter.specs.Checks.{number_of, otherwise, check_code}
-use Rattle.indexing_iter.proofs.KeyLaws.{not-refused}
-use Rattle.indexing.proofs.Tests.{and-true}
-use Rattle.indexing.specs.Builder.{capacity_of}
-use Rattle.well_formed.specs.WellFormed.{well_formed}
-use Rattle.indexing_scan.specs.Calls.{check_call, check_out, check_index, walked_by, result_of, walk_call}
+use Rattle.indexing_iter.specs.Checks.{otherwise, check_code}
+use Rattle.indexing_scan.specs.Calls.{Walked, check_call, check_out, check_index, walked_by, result_of, walk_call}
 use Rattle.indexing_scan.specs.Walk.{Result}
 use Rattle.indexing_walk.specs.declared.Ended.{Ended}
-use Rattle.indexing_walk.specs.declared.WalkAnswer.{WalkAnswer}
-use Rattle.indexing_walk.specs.declared.WalkAnswer.TheVariants.{Refused as RefusedBy, Answered}
 use Rattle.indexing_walk.specs.Answers.{told_by, walked_of}
 
--- 12, by its two parts
-pub index-over : (S : Settings) (starts index : List ℕ) (count : ℕ) → capacity_of index < count → Refused 12 ≡ check_index S starts index count
-index-over S starts index count h = rw (lt-leb count (capacity_of index) h) refl
+-- the program made has the code, starts and settings given
+pub same-check : (S S' : Settings) (starts starts' index : List ℕ) (count : ℕ) → S ≡ S' → starts ≡ starts' → check_index S starts index count ≡ check_index S' starts' index count
+same-check S S' starts starts' index count e f = ap₂ (λ (x : Settings) (y : List ℕ). check_index x y index count) e f
 
-pub index-by : (S : Settings) (starts index : List ℕ) (count : ℕ) (t : Bool) → count ≤ capacity_of index
-    → well_formed S.arity S.dynamic (known starts) (take count (records_of index)) ≡ t → cond t Passed (Refused 12) ≡ check_index S starts index count
-index-by S starts index count true h e = rw (le-leb count (capacity_of index) h, e) refl
-index-by S starts index count false h e = rw (le-leb count (capacity_of index) h, e) refl
-
-pub index-passed : (S : Settings) (starts index : List ℕ) (count : ℕ) → check_index S starts index count ≡ Passed
-    → (count ≤ capacity_of index) × (well_formed S.arity S.dynamic (known starts) (take count (records_of index)) ≡ true)
-index-passed S starts index count e =
-    let fits : Bool = leb count (capacity_of index) in
-    let well : Bool = well_formed S.arity S.dynamic (known starts) (take count (records_of index)) in
-    let t = (not-refused (not (fits && well)) 12 Passed e).0 in
-    let u = and-true fits well (not-false (fits && well) t) in
-    (leb-true count (capacity_of index) u.0, u.1)
-
--- 11
-pub out-passed : (starts out : List ℕ) → check_out starts out ≡ Passed → length starts ≤ length out
-out-passed starts out e = ltb-false (length out) (length starts) (not-refused (ltb (length out) (length starts)) 11 Passed e).0
+pub same-walk : (code code' starts starts' : List ℕ) (S S' : Settings) (call index : List ℕ) (count : ℕ) (out : List ℕ) → code ≡ code' → starts ≡ starts' → S ≡ S'
+    → walked_by passed S (result_of class_of code starts S call index count) index out ≡ walked_by passed S' (result_of class_of code' starts' S' call index count) index out
+same-walk code code' starts starts' S S' call index count out e f g = λ i. walked_by passed (g i) (result_of class_of (e i) (f i) (g i) call index count) index out
 
 module _ (code starts : List ℕ) (S : Settings) (call index : List ℕ) (count : ℕ) (out : List ℕ) where
   abbrev W : Result
@@ -63,30 +38,27 @@ module _ (code starts : List ℕ) (S : Settings) (call index : List ℕ) (count 
   abbrev fourth : Checked
   fourth = check_index S starts index count
 
-  refuses-so : (c : Checked) (n : ℕ) (r : WalkAnswer) → c ≡ Refused n → r ≡ RefusedBy (number_of c) → walked_of r index out ≡ walked_by (Refused n) S W index out
-  refuses-so c n r e f = ap (λ (x : WalkAnswer). walked_of x index out) (f ∙ ap (λ (x : Checked). RefusedBy (number_of x)) e)
+  abbrev call-made : Walked
+  call-made = walk_call class_of code starts S call index count out
 
-  module _ (c : Checked) (n : ℕ) (r : WalkAnswer) (e : c ≡ Refused n) (f : r ≡ RefusedBy (number_of c)) where
-    pub refused-1 : c ≡ first → walked_of r index out ≡ walk_call class_of code starts S call index count out
-    unfolding walk_call
-    refused-1 a = refuses-so c n r e f ∙ ap (λ (x : Checked). walked_by (otherwise x (otherwise second (otherwise third fourth))) S W index out) (sym e ∙ a)
+  -- the checks one after the other
+  pub refused-1 : (e : Refusal) → first ≡ Err e → walked_of (Err e) index out ≡ call-made
+  unfolding walk_call
+  refused-1 e a = ap (λ (x : Checked). walked_by (otherwise x (otherwise second (otherwise third fourth))) S W index out) (sym a)
 
-    pub refused-2 : first ≡ Passed → c ≡ second → walked_of r index out ≡ walk_call class_of code starts S call index count out
-    unfolding walk_call
-    refused-2 a b = refuses-so c n r e f
-        ∙ ap₂ (λ (x y : Checked). walked_by (otherwise x (otherwise y (otherwise third fourth))) S W index out) (sym a) (sym e ∙ b)
+  pub refused-2 : (e : Refusal) → first ≡ passed → second ≡ Err e → walked_of (Err e) index out ≡ call-made
+  unfolding walk_call
+  refused-2 e a b = ap₂ (λ (x y : Checked). walked_by (otherwise x (otherwise y (otherwise third fourth))) S W index out) (sym a) (sym b)
 
-    pub refused-3 : first ≡ Passed → second ≡ Passed → c ≡ third → walked_of r index out ≡ walk_call class_of code starts S call index count out
-    unfolding walk_call
-    refused-3 a b d = refuses-so c n r e f
-        ∙ (λ i. walked_by (otherwise (sym a i) (otherwise (sym b i) (otherwise ((sym e ∙ d) i) fourth))) S W index out)
+  pub refused-3 : (e : Refusal) → first ≡ passed → second ≡ passed → third ≡ Err e → walked_of (Err e) index out ≡ call-made
+  unfolding walk_call
+  refused-3 e a b c = λ i. walked_by (otherwise (sym a i) (otherwise (sym b i) (otherwise (sym c i) fourth))) S W index out
 
-    pub refused-4 : first ≡ Passed → second ≡ Passed → third ≡ Passed → c ≡ fourth → walked_of r index out ≡ walk_call class_of code starts S call index count out
-    unfolding walk_call
-    refused-4 a b d g = refuses-so c n r e f
-        ∙ (λ i. walked_by (otherwise (sym a i) (otherwise (sym b i) (otherwise (sym d i) ((sym e ∙ g) i)))) S W index out)
+  pub refused-4 : (e : Refusal) → first ≡ passed → second ≡ passed → third ≡ passed → fourth ≡ Err e → walked_of (Err e) index out ≡ call-made
+  unfolding walk_call
+  refused-4 e a b c d = λ i. walked_by (otherwise (sym a i) (otherwise (sym b i) (otherwise (sym c i) (sym d i)))) S W index out
 
-  pub accepted : (x : Ended) (index' out' : List ℕ) → first ≡ Passed → second ≡ Passed → third ≡ Passed → fourth ≡ Passed
-      → told_by x index' out' ≡ walked_by Passed S W index out → walked_of (Answered x) index' out' ≡ walk_call class_of code starts S call index count out
+  pub accepted : (x : Ended) (index' out' : List ℕ) → first ≡ passed → second ≡ passed → third ≡ passed → fourth ≡ passed
+      → told_by x index' out' ≡ walked_by passed S W index out → walked_of (Ok x) index' out' ≡ call-made
   unfolding walk_call
   accepted x index' out' a b c d e = e ∙ (λ i. walked_by (otherwise (sym a i) (otherwise (sym b i) (otherwise (sym c i) (sym d i)))) S W index out)

@@ -22,8 +22,8 @@ use Rattle.indexing.specs.Lines.{Choice, offs, size, mode_of, choice_rec}
 use Rattle.indexing.specs.Columns.{words_of}
 use Rattle.index_writer.specs.Choices.{subs_of, AllKnown}
 use Rattle.indexing_builder.specs.declared.expansion.OnDemand.{OnDemand}
-use Rattle.indexing_builder.specs.declared.expansion.Expanded.{Expanded}
-use Rattle.indexing_builder.specs.declared.expansion.Expanded.TheVariants.{Stored, NoRoom}
+use Rattle.indexing_builder.specs.declared.expansion.Grown.{Grown}
+use Rattle.std.specs.Prelude.{Option, Some, None}
 use Rattle.indexing_builder.specs.Expansion.{Demanded, Outcome, expanded_of, outcome_by, expand_call}
 use Rattle.indexing_scan.proofs.ExpandedLaws.{at_table}
 use Rattle.indexing_scan.proofs.PlaceLaws.{at-choices, words-choices}
@@ -40,9 +40,9 @@ subs-choices [] = refl
 subs-choices (c ∷ cs) = ap (λ (os : List ℕ). c.tag ∷ os) (subs-choices cs)
 
 -- by what an expansion at argument a answers, the buffer now b': where the walk stands
-abbrev pub Grows : (code starts : List ℕ) (S : Settings) (b : List ℕ) (w : Walking) (a : ℕ) (b' : List ℕ) → Expanded → Type 0
-Grows code starts S b w a b' (Stored count lines) = (v : Walking) → v ≡ grown_at w a count lines → WentBound code starts S b w a b' v
-Grows code starts S b w a b' NoRoom = (v : Walking) → v ≡ off_at w → WentBound code starts S b w a b' v
+abbrev pub Grows : (code starts : List ℕ) (S : Settings) (b : List ℕ) (w : Walking) (a : ℕ) (b' : List ℕ) → Option Grown → Type 0
+Grows code starts S b w a b' (Some g) = (v : Walking) → v ≡ grown_at w a g.count g.lines → WentBound code starts S b w a b' v
+Grows code starts S b w a b' None = (v : Walking) → v ≡ off_at w → WentBound code starts S b w a b' v
 
 module _ {code starts : List ℕ} {S : Settings} {b : List ℕ} {w : Walking} {a : ℕ} (due : AtDemand code starts S b w a) where
   abbrev ready : Ready code starts S b w
@@ -77,7 +77,6 @@ module _ {code starts : List ℕ} {S : Settings} {b : List ℕ} {w : Walking} {a
 
     pub demanded : (list tags : List ℕ) → cap ≡ capacity_of b → list ≡ offs (choices ready) → tags ≡ tags_of (choices ready) → Demanded table S code starts b list tags
     demanded list tags room el et = record {
-      checked = ready.checked;
       records-are = st.records-are;
       capacity-is = room;
       fits = omega (arith, st.fits, room);
@@ -95,21 +94,21 @@ module _ {code starts : List ℕ} {S : Settings} {b : List ℕ} {w : Walking} {a
       few = omega (arith, ap length el, length-offs (choices ready), (few-line ready).1);
     }
 
-    pub grows : (own : Bytes code) (bytes : Bytes b) (on : w.storing ≡ true) (b' : List ℕ) (x : Expanded) → expanded_of x b' ≡ expand_call table S code starts b
+    pub grows : (own : Bytes code) (bytes : Bytes b) (on : w.storing ≡ true) (b' : List ℕ) (x : Option Grown) → expanded_of x b' ≡ expand_call table S code starts b
         → Grows code starts S b w a b' x
     unfolding expand_call
     grows own bytes on b' x e = go x (leb (size (after due)) (capacity_of b)) refl e
       where
-        go : (x : Expanded) (t : Bool) → leb (size (after due)) (capacity_of b) ≡ t
+        go : (x : Option Grown) (t : Bool) → leb (size (after due)) (capacity_of b) ≡ t
             → expanded_of x b' ≡ outcome_by S.dynamic (cond t (record { storing = true; index = after due }) (record { storing = false; index = here ready })) b
             → Grows code starts S b w a b' x
-        go (Stored c n) true t e = λ u f call shut.
+        go (Some g) true t e = λ u f call shut.
             subst (λ (y : List ℕ). Went code starts S call b w y u) (sym (ap (λ (o : Outcome). o.index) e))
             (subst (Went code starts S call b w (stored S.dynamic (after due) b))
             (sym (f ∙ ap₂ (grown_at w a) (ap (λ (o : Outcome). o.count) e) (ap (λ (o : Outcome). o.lines) e)))
             (went-stored due own bytes (leb-true (size (after due)) (capacity_of b) t) call on shut))
-        go (Stored c n) false t e = bool-absurd refl (ap (λ (o : Outcome). o.storing) e)
-        go NoRoom true t e = bool-absurd (ap (λ (o : Outcome). o.storing) e) refl
-        go NoRoom false t e = λ u f call shut.
+        go (Some g) false t e = bool-absurd refl (ap (λ (o : Outcome). o.storing) e)
+        go None true t e = bool-absurd (ap (λ (o : Outcome). o.storing) e) refl
+        go None false t e = λ u f call shut.
             subst (λ (y : List ℕ). Went code starts S call b w y u) (sym (ap (λ (o : Outcome). o.index) e))
             (subst (Went code starts S call b w b) (sym f) (went-over due (leb-false (size (after due)) (capacity_of b) t) call on shut))

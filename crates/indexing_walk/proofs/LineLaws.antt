@@ -27,7 +27,8 @@ use Rattle.well_formed.proofs.Sound.{fit-lines, index-good}
 use Rattle.well_formed.proofs.WellFormed.{lines_of}
 use Rattle.well_formed.specs.WellFormed.{rising_ok, args_ok, table_ok, choices_ok, tag_ok, some_ok, lines_ok}
 use Rattle.indexing_scan.proofs.PlaceLaws.{at_count, at-copied, at-offsets, place-within}
-use Rattle.indexing_scan.specs.Calls.{case_number}
+use Rattle.indexing_scan.specs.Cases.{case_of}
+use Rattle.indexing_scan.specs.declared.case.Case.TheVariants.{Sequence, Variadic}
 use Rattle.indexing.specs.Columns.{words_of}
 use Rattle.indexing_scan.specs.Places.{At, offsets_at, first_offset}
 use Rattle.indexing_scan.specs.Walk.{line, kind_at}
@@ -50,12 +51,11 @@ every-at kn [] e i h = absurd (not-suc-le-zero h)
 every-at kn (o ∷ os) e zero h = (and-true (kn o) (every kn os) e).0
 every-at kn (o ∷ os) e (suc i) h = every-at kn os (and-true (kn o) (every kn os) e).1 i (omega arith)
 
--- the offsets of the walk's line stand at the front of a list
-pub record LineRead (starts b : List ℕ) (w : Walking) (m : ℕ) (list : List ℕ) : Type 0 where
-  pub offsets : take m list ≡ offs (line_at (index_in b w.count) w.line).choices
-  pub within-1024 : m ≤ 1024
-  pub known-all : every (known starts) (take m list) ≡ true
-  pub few : m ≤ length starts
+-- a list of the offsets of the walk's line
+pub record LineRead (starts b : List ℕ) (w : Walking) (list : List ℕ) : Type 0 where
+  pub offsets : list ≡ offs (line_at (index_in b w.count) w.line).choices
+  pub known-all : every (known starts) list ≡ true
+  pub few : length list ≤ length starts
 
 module _ {code starts : List ℕ} {S : Settings} {b : List ℕ} {w : Walking} (ready : Ready code starts S b w) where
   ok : CodeOk class_of S.arity (records_of code) starts
@@ -129,19 +129,17 @@ module _ {code starts : List ℕ} {S : Settings} {b : List ℕ} {w : Walking} (r
   -- what is read of the line
   pub line_read : (k : ℕ) (new old : List ℕ) → k ≡ offsets_at (R ready) (first_offset (R ready) w.at)
       → new ≡ words_of (slice (first_offset (R ready) w.at) (first_offset (R ready) w.at + k) (records_of b)) ++ drop k old
-      → LineRead starts b w k new
+      → LineRead starts b w (take k new)
   line_read k new old e f =
       let q : ℕ = first_offset (R ready) w.at in
       let x = offs-copied q (at-offs q refl) k new old e f in
-      let n = offs-count q (at-offs q refl) in
       record {
         offsets = x;
-        within-1024 = omega (arith, e, n, few-line.1);
         known-all = ap (every (known starts)) x ∙ known-line;
-        few = omega (arith, e, n, few-line.0);
+        few = omega (arith, ap length x, length-offs (choices ready), few-line.0);
       }
 
 -- the case where no table is left
-pub case_at : (l : ℕ) → cond (eqb l 0) 4 3 ≡ case_number (kind_at (line l))
+pub case_at : (l : ℕ) → case_of (cond (eqb l 0) Variadic Sequence) ≡ kind_at (line l)
 case_at zero = refl
-case_at (suc l) = ap (λ (x : Bool). cond x 4 3) (ne_eqb (suc l) 0 (λ z. omega arith))
+case_at (suc l) = ap (λ (x : Bool). case_of (cond x Variadic Sequence)) (ne_eqb (suc l) 0 (λ z. omega arith))

@@ -3,16 +3,15 @@
 use mathlib.Core.Path.{◌≡◌, refl, sym, ap, ap₂, ◌∙◌, subst}
 use mathlib.Core.Bool.{true, cond}
 use mathlib.Core.List.{List, ◌++◌}
-use Prim.Native.Nat.{ℕ, suc, ◌+◌, ◌-◌, ◌≤◌, ◌<◌}
+use Prim.Native.Nat.{ℕ, ◌+◌, ◌-◌, ◌≤◌, ◌<◌}
 use native.Mathlib.Omega.{arith}
-use lib.ListN.{length, get_or, take, drop, take-append-drop, set}
-use lib.Seq.{length-take-le, take-suc, drop-cons, append_snoc, set_at}
-use native.Mathlib.Numerals.{add-one}
+use lib.ListN.{length, take, drop, take-append-drop}
+use lib.Seq.{length-take-le}
 use Rattle.records.specs.declared.Rec.{Rec}
 use Rattle.records.specs.Records.{records_of}
 use Rattle.records.proofs.Whole.{Bytes}
 use Rattle.indexing_iter.specs.declared.Settings.{Settings}
-use Rattle.indexing_iter.specs.declared.Checked.TheVariants.{Passed}
+use Rattle.indexing_iter.specs.Refusals.{passed}
 use Rattle.indexing_iter.specs.Classes.{class_of}
 use Rattle.indexing_iter.specs.Clauses.{known}
 use Rattle.indexing.proofs.Size.{length-records, lines-size}
@@ -25,7 +24,7 @@ use Rattle.well_formed.specs.WellFormed.{index_ok, well_formed}
 use Rattle.indexing_scan.proofs.ExpandedLaws.{at-start}
 use Rattle.indexing_scan.proofs.Steps.{walk_is}
 use Rattle.indexing_scan.specs.ByArgument.{walk_from}
-use Rattle.indexing_scan.specs.Calls.{call_of, walked_by, result_of}
+use Rattle.indexing_scan.specs.Calls.{call_of, case_number, walked_by, result_of}
 use Rattle.indexing_scan.specs.Walk.{line, Result, walk}
 use Rattle.indexing_walk.specs.declared.Ended.{Ended}
 use Rattle.indexing_walk.specs.declared.Walking.{Walking}
@@ -33,28 +32,6 @@ use Rattle.indexing_walk.specs.Answers.{told_by}
 use Rattle.indexing_walk.specs.Walking.{index_in, Stands, Kept, Comes, rest_of, Ends}
 use Rattle.indexing_walk.proofs.WalkLaws.{comes-start}
 use Rattle.indexing.proofs.Stored.{capacity-within, capacity-small, stored-wrote}
-
--- ---- a list copied
-
-pub copied_to : List ℕ → List ℕ → ℕ → List ℕ
-copied_to list old i = take i list ++ drop i old
-
-pub copy_start : (list old : List ℕ) → old ≡ copied_to list old 0
-unfolding copied_to
-copy_start list old = refl
-
-pub copy_more : (list old : List ℕ) (i : ℕ) → i < length list → i < length old → set (copied_to list old i) i (get_or list i 0) ≡ copied_to list old (i + 1)
-unfolding copied_to
-copy_more list old i h k =
-    let n : length (take i list) ≡ i = length-take-le i list (omega arith) in
-    ap (λ (x : List ℕ). set (take i list ++ x) i (get_or list i 0)) (drop-cons old i 0 k)
-    ∙ set_at (take i list) (get_or old i 0) (drop (suc i) old) (get_or list i 0) i n
-    ∙ sym (ap₂ (λ (x y : ℕ). take x list ++ drop y old) (add-one i) (add-one i)
-    ∙ ap (λ (x : List ℕ). x ++ drop (suc i) old) (take-suc list i 0 h) ∙ append_snoc (take i list) (get_or list i 0) (drop (suc i) old))
-
-pub copy-end : (list old : List ℕ) (i k : ℕ) → i ≡ k → copied_to list old i ≡ take k list ++ drop k old
-unfolding copied_to
-copy-end list old i k e = ap (λ (x : ℕ). take x list ++ drop x old) e
 
 -- ---- the start
 
@@ -124,10 +101,10 @@ module _ {code starts : List ℕ} {S : Settings} {b : List ℕ} {count lines : �
 -- ---- the end
 
 pub told_is : (S : Settings) (b b' list out out' : List ℕ) (W : Result) (e : Ended) → Ends b' list W e → Kept S b b' e.records
-    → out' ≡ take e.count list ++ drop e.count out → told_by e b' out' ≡ walked_by Passed S W b out
+    → out' ≡ take e.count list ++ drop e.count out → told_by e b' out' ≡ walked_by passed S W b out
 told_is S b b' list out out' W e x k f = λ i. record {
   number = 0;
-  case = x.case i;
+  case = case_number (x.case i);
   line = x.line i;
   count = x.count i;
   tables = x.tables i;

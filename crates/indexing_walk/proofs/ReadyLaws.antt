@@ -1,31 +1,17 @@
 -- A walk at a table, as the code comes to it: the kind and the argument read, and numbers that fit.
 -- Assumes nothing.
-use mathlib.Core.Path.{◌≡◌, refl, sym, ap, ◌∙◌}
-use mathlib.Core.Bool.{Bool, true, false, ◌||◌}
 use mathlib.Core.List.{List}
 use Prim.Native.Nat.{ℕ, ◌≤◌, ◌<◌}
 use native.Mathlib.Omega.{arith}
-use lib.Dec.{eqb}
 use lib.ListN.{length}
-use borrow.Author.Tests.{eqb-true, ne_eqb}
 use Rattle.records.specs.Records.{records_of}
 use Rattle.indexing_iter.specs.declared.Settings.{Settings}
 use Rattle.indexing.proofs.Size.{lines-size}
 use Rattle.indexing.proofs.Stored.{capacity-small}
-use Rattle.indexing_scan.specs.Places.{is_table}
 use Rattle.indexing_walk.specs.declared.Walking.{Walking}
 use Rattle.indexing_walk.proofs.StandLaws.{Ready, here, within, size_is, arg-range, at_count}
 use Rattle.indexing_walk.proofs.TurnLaws.{AtTable, some-table}
 use Rattle.indexing_walk.proofs.LineLaws.{arity-32}
-
--- the third kind of a table
-pub third-kind : (k : ℕ) → is_table k ≡ true → (k ≡ 4 → ⊥) → (k ≡ 2 → ⊥) → k ≡ 3
-third-kind k e x y =
-    eqb-true k 3 (go (eqb k 3) (sym (ap (λ (z : Bool). z || (eqb k 3 || eqb k 4)) (ne_eqb k 2 y) ∙ ap (λ (z : Bool). eqb k 3 || z) (ne_eqb k 4 x)) ∙ e))
-  where
-    go : (z : Bool) → z || false ≡ true → z ≡ true
-    go true e = refl
-    go false e = e
 
 -- numbers that fit
 pub small : {code starts : List ℕ} {S : Settings} {b : List ℕ} {w : Walking} → Ready code starts S b w

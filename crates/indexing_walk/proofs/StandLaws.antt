@@ -10,7 +10,7 @@ use lib.ListN.{length, get_or, take}
 use lib.Seq.{length-take-le}
 use Rattle.records.specs.declared.Rec.{Rec}
 use Rattle.records.specs.Records.{records_of, zero_rec}
-use Rattle.indexing_iter.specs.declared.Checked.TheVariants.{Passed}
+use Rattle.indexing_iter.specs.Refusals.{passed}
 use Rattle.indexing_iter.specs.declared.Settings.{Settings}
 use Rattle.indexing_iter.specs.Checks.{check_code}
 use Rattle.indexing_iter.specs.Classes.{class_of}
@@ -37,7 +37,7 @@ use Rattle.indexing_walk.proofs.WalkLaws as Laws
 
 -- a walk that stands in a buffer, in checked code
 pub record Ready (code starts : List ℕ) (S : Settings) (b : List ℕ) (w : Walking) : Type 0 where
-  pub checked : check_code class_of S.arity code starts ≡ Passed
+  pub checked : check_code class_of S.arity code starts ≡ passed
   pub stands : Stands S starts b w
 
 module _ {code starts : List ℕ} {S : Settings} {b : List ℕ} {w : Walking} (ready : Ready code starts S b w) where
@@ -165,6 +165,3 @@ module _ {code starts : List ℕ} {S : Settings} {b : List ℕ} {w : Walking} {a
 
   pub placed : At (mode_of S.dynamic) (here ready) (R ready) w.line (on_demand a ∷ left.later) w.at
   placed = place-first ready (on_demand a) left.later first-is
-
-  pub below-count : w.at < w.count
-  below-count = at_count ready (on_demand a) left.later first-is

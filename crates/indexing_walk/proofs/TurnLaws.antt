@@ -20,19 +20,30 @@ use Rattle.indexing.specs.Lines.{Ptr, ext, int, Table, switch, on_demand, dead, 
 use Rattle.indexing_scan.proofs.ExpandedLaws.{at-fits}
 use Rattle.indexing_scan.proofs.PlaceLaws.{at-skip, place-within, at_none, at-record, at-switch, at_dead, at_last, at-line, at-chosen, LeftSwitch}
 use Rattle.indexing_scan.proofs.Steps.{Left}
-use Rattle.indexing_scan.specs.Calls.{call_of, case_number}
+use Rattle.indexing_scan.specs.Calls.{call_of}
+use Rattle.indexing_scan.specs.Cases.{case_of, ending_of}
 use Rattle.indexing_scan.specs.Places.{At, is_table, behind_table, behind_line, choose_rec}
 use Rattle.indexing_scan.specs.Unstored.{finished_by}
 use Rattle.indexing_scan.specs.ByArgument.{answer_from, move, settle}
-use Rattle.indexing_scan.specs.Walk.{Chosen, line, unstored, Move, stop, pass, out, goto, follow, choose, move_at, Result, result, fail, external, kind_at}
+use Rattle.indexing_scan.specs.Walk.{Chosen, line, unstored, Move, stop, pass, out, goto, follow, choose, move_at, Result, result, Case, fail, external, sequence, variadic, kind_at}
 use Rattle.indexing_scan.specs.declared.unstored.Finished.{Finished}
+use Rattle.indexing_scan.specs.declared.case.Case.{Case as Ending}
+use Rattle.indexing_scan.specs.declared.case.Case.TheVariants.{Fail as Fails, External as Externals}
+use Rattle.std.specs.declared.ops.ControlFlow.{ControlFlow}
 use Rattle.indexing_walk.specs.declared.Looked.{Looked}
-use Rattle.indexing_walk.specs.declared.Turned.{Turned}
+use Rattle.indexing_walk.specs.declared.Ended.{Ended}
 use Rattle.indexing_walk.specs.declared.Walking.{Walking}
 use Rattle.indexing_walk.specs.Walking.{led_to, choice_led, looked_by, moved_to, ended_by, turned_by, ListedBy, Comes, rest_of, Ends, Went, Turns}
 use Rattle.indexing_walk.proofs.WalkLaws.{rest, ends, left-next, left-whole, led, move-is, quiet-open, quiet-table}
 use Rattle.indexing_walk.proofs.LineLaws.{fit, some-clause}
 use Rattle.indexing_walk.proofs.StandLaws.{Ready, program, R, here, there, within, left-of, orderly, size_is, stands_at, went-at, left-first, place-first, arg-range, turned}
+
+-- a case, as a number's name and back
+ending-back : (k : Case) → case_of (ending_of k) ≡ k
+ending-back fail = refl
+ending-back external = refl
+ending-back sequence = refl
+ending-back variadic = refl
 
 -- the first of the tables left, with its argument
 pub record Some (ts : List Table) (a : ℕ) : Type 0 where
@@ -55,11 +66,11 @@ module _ {code starts : List ℕ} {S : Settings} {b : List ℕ} {w : Walking} (r
 
 module _ {code starts : List ℕ} {S : Settings} {b : List ℕ} {w : Walking} (ready : Ready code starts S b w) (call : List ℕ) where
   -- how the walk ends, by what is left of it
-  ends_by : (list : List ℕ) (W : Result) (c l k more : ℕ) (Z : Result) → Comes W (w.tables + more) Z → c ≡ case_number Z.found.kind → l ≡ Z.number
+  ends_by : (list : List ℕ) (W : Result) (c : Ending) (l k more : ℕ) (Z : Result) → Comes W (w.tables + more) Z → case_of c ≡ Z.found.kind → l ≡ Z.number
       → k ≡ length Z.found.offsets → take k list ≡ Z.found.offsets → 0 ≡ length Z.found.path → w.storing ≡ Z.whole → Z.left ≡ here ready
       → Ends b list W (ended_by w c l k more)
   ends_by list W c l k more Z x e₁ e₂ e₃ e₄ e₅ e₆ e₇ = record {
-    case = e₁ ∙ sym (ap case_number x.kind);
+    case = e₁ ∙ sym x.kind;
     line = e₂ ∙ sym x.number;
     count = e₃ ∙ sym (ap length x.offsets);
     offsets = e₄ ∙ sym x.offsets;
@@ -102,16 +113,16 @@ module _ {code starts : List ℕ} {S : Settings} {b : List ℕ} {w : Walking} (r
         range.0 range.1 refl refl (λ W c. turned ready call u ts e (goto h (line j)) s m W c)
 
     -- Fail
-    pub to-fail : (list : List ℕ) → Settled → moves ≡ stop → (W : Result) → Comes W w.tables (rest_of code starts S call b w) → Ends b list W (ended_by w 1 0 0 1)
+    pub to-fail : (list : List ℕ) → Settled → moves ≡ stop → (W : Result) → Comes W w.tables (rest_of code starts S call b w) → Ends b list W (ended_by w Fails 0 0 1)
     to-fail list s m W c =
-        ends_by list W 1 0 0 1 (result 0 (there ready) (record { kind = fail; offsets = []; path = [] }))
+        ends_by list W Fails 0 0 1 (result 0 (there ready) (record { kind = fail; offsets = []; path = [] }))
         (turned ready call u ts e stop s m W c) refl refl refl refl refl refl refl
 
     -- External
     pub to_out : (list : List ℕ) (h o : ℕ) → Settled → moves ≡ out h o → take 1 list ≡ o ∷ []
-        → (W : Result) → Comes W w.tables (rest_of code starts S call b w) → Ends b list W (ended_by w 2 0 1 1)
+        → (W : Result) → Comes W w.tables (rest_of code starts S call b w) → Ends b list W (ended_by w Externals 0 1 1)
     to_out list h o s m f W c =
-        ends_by list W 2 0 1 1 (result 0 (there ready) (record { kind = external; offsets = o ∷ []; path = [] }))
+        ends_by list W Externals 0 1 1 (result 0 (there ready) (record { kind = external; offsets = o ∷ []; path = [] }))
         (turned ready call u ts e (out h o) s m W c) refl refl refl f refl refl refl
 
     -- a line that is not stored, in which the answer is worked out
@@ -122,7 +133,7 @@ module _ {code starts : List ℕ} {S : Settings} {b : List ℕ} {w : Walking} (r
     to-new list h os r s m f g W c =
         let x = turned ready call u ts e (goto h (unstored os)) s m W c in
         record {
-          case = ap (λ (y : Finished). y.case) f ∙ sym (ap case_number x.kind);
+          case = ap (λ (y : Finished). case_of y.case) f ∙ ending-back (answer_from (program ready) (call_of call) (S.arity + 1 - (a + 1)) (a + 1) [] (unstored os)).kind ∙ sym x.kind;
           line = sym x.number;
           count = ap (λ (y : Finished). y.count) f ∙ sym (ap length x.offsets);
           offsets = g ∙ sym x.offsets;
@@ -133,7 +144,7 @@ module _ {code starts : List ℕ} {S : Settings} {b : List ℕ} {w : Walking} (r
         }
 
   -- no table is left
-  pub to_end : (list : List ℕ) (c k : ℕ) → ready.stands.tables ≡ [] → c ≡ case_number (kind_at (line w.line)) → k ≡ length (offs (line_at (here ready) w.line).choices)
+  pub to_end : (list : List ℕ) (c : Ending) (k : ℕ) → ready.stands.tables ≡ [] → case_of c ≡ kind_at (line w.line) → k ≡ length (offs (line_at (here ready) w.line).choices)
       → take k list ≡ offs (line_at (here ready) w.line).choices
       → (W : Result) → Comes W w.tables (rest_of code starts S call b w) → Ends b list W (ended_by w c w.line k 0)
   unfolding rest_of rest
@@ -141,7 +152,7 @@ module _ {code starts : List ℕ} {S : Settings} {b : List ℕ} {w : Walking} (r
       let left : Left (program ready) (here ready) (line w.line) w.from [] = subst (Left (program ready) (here ready) (line w.line) w.from) e (left-of ready) in
       let y = ends (program ready) (capacity_of b) (call_of call) W w.tables (there ready) w.line w.from ready.stands.last left x in
       record {
-        case = f ∙ sym (ap case_number y.kind);
+        case = f ∙ sym y.kind;
         line = sym y.number;
         count = g ∙ sym (ap length y.offsets);
         offsets = h ∙ sym y.offsets;
@@ -234,7 +245,7 @@ module _ {code starts : List ℕ} {S : Settings} {b : List ℕ} {w : Walking} {a
               (left-whole (program ready) (here ready) (w.line + d) (a + 1) (rw (add-one a) x.2))
 
       pub turn-switch : (list : List ℕ) (x : Looked) → x ≡ looked_by (R ready) w.at w.line (choose_rec key (slice (w.at + 1) (behind_table (R ready) w.at) (records_of b)))
-          → ListedBy x list → (r : Turned) → r ≡ turned_by w a x → Turns code starts S call b w b list r
+          → ListedBy x list → (r : ControlFlow Ended Walking) → r ≡ turned_by w a x → Turns code starts S call b w b list r
       turn-switch list x e f r h =
           let q : ℕ = behind_table (R ready) w.at in
           let after : At (mode_of S.dynamic) (here ready) (R ready) w.line left.later q = at-skip at-it q refl in

@@ -15,15 +15,18 @@ use Rattle.indexing.specs.Builder.{capacity_of, stored}
 use Rattle.well_formed.specs.WellFormed.{args_ok, index_ok}
 use Rattle.indexing_scan.specs.ByArgument.{walk_from}
 use Rattle.indexing_scan.specs.Walk.{Chosen as WalkChosen, line, Result}
-use Rattle.indexing_scan.specs.Calls.{call_of, case_number}
+use Rattle.indexing_scan.specs.Calls.{call_of}
+use Rattle.indexing_scan.specs.Cases.{case_of}
 use Rattle.indexing_scan.specs.Places.{At, behind_line, choice_of}
 use Rattle.indexing_scan.specs.declared.stored.Chosen.{Chosen}
 use Rattle.indexing_walk.specs.declared.Looked.{Looked}
 use Rattle.indexing_walk.specs.declared.Looked.TheVariants.{Failed, External, Enter}
 use Rattle.indexing_walk.specs.declared.Walking.{Walking}
 use Rattle.indexing_walk.specs.declared.Ended.{Ended}
-use Rattle.indexing_walk.specs.declared.Turned.{Turned}
-use Rattle.indexing_walk.specs.declared.Turned.TheVariants.{On, Done}
+use Rattle.indexing_scan.specs.declared.case.Case.{Case as Ending}
+use Rattle.indexing_scan.specs.declared.case.Case.TheVariants.{Fail as Fails, External as Externals}
+use Rattle.std.specs.declared.ops.ControlFlow.{ControlFlow}
+use Rattle.std.specs.declared.ops.ControlFlow.TheVariants.{Continue, Break}
 
 -- ---- what a switch leads to
 
@@ -75,7 +78,7 @@ moved_to w l p a =
     record { line = l; at = p; from = a + 1; count = w.count; lines = w.lines; storing = w.storing; tables = w.tables + 1 }
 
 -- the walk ended in the case c with line number l and k offsets, and so many more tables looked at
-abbrev pub ended_by : Walking → ℕ → ℕ → ℕ → ℕ → Ended
+abbrev pub ended_by : Walking → Ending → ℕ → ℕ → ℕ → Ended
 ended_by w c l k more =
     record { case = c; line = l; count = k; tables = w.tables + more; whole = w.storing; records = w.count }
 
@@ -87,10 +90,10 @@ abbrev pub grown_at : Walking → ℕ → ℕ → ℕ → Walking
 grown_at w a count lines = record { line = w.line; at = w.at; from = a; count = count; lines = lines; storing = w.storing; tables = w.tables }
 
 -- the turn at a switch for argument a
-abbrev pub turned_by : Walking → ℕ → Looked → Turned
-turned_by w a Failed = Done (ended_by w 1 0 0 1)
-turned_by w a (External o) = Done (ended_by w 2 0 1 1)
-turned_by w a (Enter l p) = On (moved_to w l p a)
+abbrev pub turned_by : Walking → ℕ → Looked → ControlFlow Ended Walking
+turned_by w a Failed = Break (ended_by w Fails 0 0 1)
+turned_by w a (External o) = Break (ended_by w Externals 0 1 1)
+turned_by w a (Enter l p) = Continue (moved_to w l p a)
 
 -- the offset of an external pointer stands at the front of the list
 abbrev pub ListedBy : Looked → List ℕ → Type 0
@@ -121,7 +124,7 @@ turns_left S b w = 3 * (S.arity + 1 - w.from) + (cond w.storing 1 0 + cond (eqb 
 
 -- how it ended: the case, line number, count and tables of the result; its offsets at the front of a list, and its index in the buffer
 pub record Ends (b list : List ℕ) (W : Result) (e : Ended) : Type 0 where
-  pub case : e.case ≡ case_number W.found.kind
+  pub case : case_of e.case ≡ W.found.kind
   pub line : e.line ≡ W.number
   pub count : e.count ≡ length W.found.offsets
   pub offsets : take e.count list ≡ W.found.offsets
@@ -139,9 +142,9 @@ pub record Went (code starts : List ℕ) (S : Settings) (call b : List ℕ) (w :
   pub long : length b' ≡ length b
 
 -- one turn: it has gone on, or ended with the buffer as it was
-abbrev pub Turns : List ℕ → List ℕ → Settings → List ℕ → List ℕ → Walking → List ℕ → List ℕ → Turned → Type 0
-Turns code starts S call b w b' list (On v) = Went code starts S call b w b' v
-Turns code starts S call b w b' list (Done e) = ((W : Result) → Comes W w.tables (rest_of code starts S call b w) → Ends b list W e) × (b' ≡ b) × (e.records ≡ w.count) × (e.count ≤ length starts)
+abbrev pub Turns : List ℕ → List ℕ → Settings → List ℕ → List ℕ → Walking → List ℕ → List ℕ → ControlFlow Ended Walking → Type 0
+Turns code starts S call b w b' list (Continue v) = Went code starts S call b w b' v
+Turns code starts S call b w b' list (Break e) = ((W : Result) → Comes W w.tables (rest_of code starts S call b w) → Ends b list W e) × (b' ≡ b) × (e.records ≡ w.count) × (e.count ≤ length starts)
 
 -- the walk has gone on so with every call that is bound at argument a
 abbrev pub WentBound : List ℕ → List ℕ → Settings → List ℕ → Walking → ℕ → List ℕ → Walking → Type 0

@@ -1,68 +1,32 @@
 // The turn at an on-demand table while expansions are stored: the switch and its lines are written, or nothing is stored any more.
-ghost use Rattle.std.specs.Prelude.{◌≡◌, length, take, get_or, true, false};
+ghost use Rattle.std.specs.Prelude.{◌≡◌, length, take, get_or, true};
 ghost use Rattle.records.specs.Records.{records_of, zero_rec};
-ghost use Rattle.indexing_iter.specs.Classes.{class_of};
-ghost use Rattle.indexing_iter.specs.Checks.{check_code};
-ghost use Rattle.indexing_iter.specs.declared.Checked.TheVariants.{Passed};
 ghost use Rattle.indexing_scan.specs.Places.{first_offset, offsets_at};
-ghost use Rattle.indexing_walk.specs.Walking.{off_at, grown_at, Stands, WentBound};
+ghost use Rattle.indexing_walk.specs.Walking.{Stands, WentBound};
 
 use crate::Walking;
-use indexing_builder::expansion::{Expanded, OnDemand};
-use indexing_iter::Settings;
+use indexing_builder::expansion::{Grown, OnDemand};
+use indexing_iter::program::Program;
+use indexing_scan::stored_index::Stored;
 
-// From here on nothing is stored.
-fn unstored_from(w: Walking) -> Walking
-    ensures { result ≡ off_at w }
-{
-    Walking {
-        line: w.line,
-        at: w.at,
-        from: w.from,
-        count: w.count,
-        lines: w.lines,
-        storing: false,
-        tables: w.tables,
-    }
-}
-
-// The walk at the same place of the expanded index, at the table for argument a.
-fn expanded_at(w: Walking, a: u32, count: usize, lines: u32) -> Walking
-    ensures { result ≡ grown_at w a count lines }
-{
-    Walking {
-        line: w.line,
-        at: w.at,
-        from: a,
-        count,
-        lines,
-        storing: w.storing,
-        tables: w.tables,
-    }
-}
-
-// The expansion with two lists as long as the line, whose m offsets start at place q: the walk looks again at its place, or stores nothing
+// The expansion with two lists as long as the line, whose offsets start at place q: the walk looks again at its place, or stores nothing
 // any more.
 fn store_line(
-    code: &[u8],
-    starts: &[u32],
-    settings: Settings,
+    program: &Program,
     index: &mut [u8],
     w: Walking,
     a: u32,
     q: usize,
-    m: usize,
     list: &mut [u32],
     tags: &mut [u8],
 ) -> Walking
-    requires starts_value { check_code class_of settings.arity code.now starts.now ≡ Passed }
-    requires stands { Stands settings starts.now index.old w }
-    requires list_len { (length list.old ≡ m) × (length tags.old ≡ m) × (w.storing ≡ true) }
-    requires q_value { (q ≡ first_offset (take w.count (records_of index.old)) w.at) × (m ≡ offsets_at (take w.count (records_of index.old)) q) }
+    requires stands { Stands program.now.settings program.now.starts.now index.old w }
+    requires list_len { (length tags.old ≡ length list.old) × (w.storing ≡ true) }
+    requires q_value { (q ≡ first_offset (take w.count (records_of index.old)) w.at) × (length list.old ≡ offsets_at (take w.count (records_of index.old)) q) }
     requires zero_rec_value { ((get_or (take w.count (records_of index.old)) w.at zero_rec).kind ≡ 3) × (a ≡ (get_or (take w.count (records_of index.old)) w.at zero_rec).half) }
-    ensures { WentBound code.now starts.now settings index.old w a index.new result }
+    ensures { WentBound program.now.code.now program.now.starts.now program.now.settings index.old w a index.new result }
 {
-    index_writer::columns::read_choices(index, q, m, list, tags);
+    index_writer::columns::read_choices(index, q, list.len(), list, tags);
     let table = OnDemand {
         arg: a,
         at: w.at,
@@ -71,44 +35,42 @@ fn store_line(
         lines: w.lines,
         capacity: indexing_builder::capacity(index),
     };
-    let x = indexing_builder::expansion::indices_of_arg(
-        code, starts, settings, index, table, list, tags,
-    );
-    let Expanded::Stored { count, lines } = x else {
-        return unstored_from(w);
+    let x = indexing_builder::expansion::indices_of_arg(program, index, table, list, tags);
+    let Some(Grown { count, lines }) = x else {
+        // From here on nothing is stored.
+        return Walking {
+            storing: false,
+            ..w
+        };
     };
-    expanded_at(w, a, count, lines)
+    // The walk is at the same place of the expanded index, at the table for argument a.
+    Walking {
+        from: a,
+        count,
+        lines,
+        ..w
+    }
 }
 
 // The turn at an on-demand table for argument a while expansions are stored.
 pub fn turn_store(
-    code: &[u8],
-    starts: &[u32],
-    settings: Settings,
+    program: &Program,
     index: &mut [u8],
     w: Walking,
     a: u32,
-    list: &mut [u32],
-    tags: &mut [u8],
+    list: &mut [u32; 1024],
+    tags: &mut [u8; 1024],
 ) -> Walking
-    requires starts_value { check_code class_of settings.arity code.now starts.now ≡ Passed }
-    requires stands { Stands settings starts.now index.old w }
-    requires list_len { (length list.old ≡ 1024) × (length tags.old ≡ 1024) × (w.storing ≡ true) }
+    requires stands { Stands program.now.settings program.now.starts.now index.old w }
+    requires on { w.storing ≡ true }
     requires zero_rec_value { ((get_or (take w.count (records_of index.old)) w.at zero_rec).kind ≡ 3) × (a ≡ (get_or (take w.count (records_of index.old)) w.at zero_rec).half) }
-    ensures { WentBound code.now starts.now settings index.old w a index.new result }
+    ensures { WentBound program.now.code.now program.now.starts.now program.now.settings index.old w a index.new result }
 {
-    let q = indexing_scan::stored::first_offset(index, w.count, w.at);
-    let m = indexing_scan::stored::count_offsets(index, w.count, q);
-    store_line(
-        code,
-        starts,
-        settings,
+    let stored = Stored {
         index,
-        w,
-        a,
-        q,
-        m,
-        &mut list[..m],
-        &mut tags[..m],
-    )
+        count: w.count,
+    };
+    let q = indexing_scan::stored::first_offset(&stored, w.at);
+    let m = indexing_scan::stored::count_offsets(&stored, q);
+    store_line(program, index, w, a, q, &mut list[..m], &mut tags[..m])
 }

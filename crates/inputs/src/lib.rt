@@ -1,13 +1,17 @@
 // The input of the programs: a settings record, a record for each start, then code.
 #![tactic(auto)]
 
-ghost use Rattle.std.specs.Prelude.{◌≡◌, ◌+◌, ◌*◌, ◌≤◌, ◌<◌, min, length, get_or, drop, eqb};
+pub mod part;
+
+ghost use Rattle.std.specs.Prelude.{◌≡◌, ◌≤◌, ◌<◌, length, get_or, drop, eqb};
 ghost use Rattle.records.specs.Records.{records_of, zero_rec};
 ghost use Rattle.indexing_builder.specs.Answer.{built_of};
 ghost use Rattle.inputs.specs.Input.{bit as bit_of, settings_from, starts_in, lines_call};
 
-use indexing_builder::BuildAnswer;
+use indexing_builder::Built;
 use indexing_iter::Settings;
+use indexing_iter::refusal::Refusal;
+use part::Part;
 use records::Rec;
 
 // The bit of sub whose value is k.
@@ -22,17 +26,14 @@ pub fn bit(sub: u8, k: u8) -> bool
 pub fn settings_in(r: Rec) -> Settings
     ensures { result ≡ settings_from (eqb r.kind 240) r }
 {
-    let sub = r.sub;
-    let half = r.half;
-    let kind = r.kind;
-    if kind == 240 {
+    if r.kind == Part::Settings as u8 {
         return Settings {
-            arity: half as u32,
+            arity: u32::from(r.half),
             mask: r.word,
-            dynamic: bit(sub, 1),
-            extensible: bit(sub, 2),
-            non_counted: bit(sub, 4),
-            skip: bit(sub, 8),
+            dynamic: bit(r.sub, 1),
+            extensible: bit(r.sub, 2),
+            non_counted: bit(r.sub, 4),
+            skip: bit(r.sub, 8),
         };
     }
     Settings {
@@ -58,15 +59,12 @@ pub fn count_starts(input: &[u8]) -> usize
     ensures { result ≡ length (starts_in (drop 1 (records_of input.now))) }
 {
     let n = records::capacity(input);
-    let mut k = 0;
-    while k + 1 < n {
-        let r = records::get(input, k + 1);
-        if r.kind != 241 {
-            return k;
+    for i in 1..n {
+        if records::get(input, i).kind != Part::Start as u8 {
+            return i - 1;
         }
-        k += 1;
     }
-    k
+    n.saturating_sub(1)
 }
 
 // Reads the starts that follow the first record.
@@ -74,41 +72,27 @@ pub fn read_starts(input: &[u8], starts: &mut [u32])
     requires { length starts.old ≡ length (starts_in (drop 1 (records_of input.now))) }
     ensures { starts.new ≡ starts_in (drop 1 (records_of input.now)) }
 {
-    let mut i = 0;
-    while i < starts.len() {
-        let r = records::get(input, i + 1);
-        starts[i] = r.word;
-        i += 1;
+    for i in 0..starts.len() {
+        starts[i] = records::get(input, i + 1).word;
     }
-}
-
-// Where the code begins, after the first record and k starts, or the input's end.
-fn code_start(input: &[u8], k: usize) -> usize
-    requires { k ≤ 4096 }
-    ensures { result ≡ min (16 * (1 + k)) (length input.now) }
-{
-    let at = 16 * (1 + k);
-    if at < input.len() {
-        return at;
-    }
-    input.len()
 }
 
 // The index of an input that is not too long; starts has the length of its starts.
-fn list_starts(input: &[u8], starts: &mut [u32], index: &mut [u8]) -> BuildAnswer
+fn list_starts(input: &[u8], starts: &mut [u32], index: &mut [u8]) -> Result<Built, Refusal>
     requires input_len_bound { length input.now ≤ 65536 }
     requires starts_len { length starts.old ≡ length (starts_in (drop 1 (records_of input.now))) }
     ensures { built_of result index.new ≡ lines_call input.now index.old }
 {
     let first = first_record(input);
     let settings = settings_in(first);
-    let at = code_start(input, starts.len());
+    let n = starts.len();
+    let at = input.len().min(16 * (1 + n));
     read_starts(input, starts);
     indexing_builder::compute_indices(&input[at..], starts, settings, first.long, index)
 }
 
 // Longer input: no starts, and its first byte as code.
-fn list_longer(input: &[u8], index: &mut [u8]) -> BuildAnswer
+fn list_longer(input: &[u8], index: &mut [u8]) -> Result<Built, Refusal>
     requires { 65536 < length input.now }
     ensures { built_of result index.new ≡ lines_call input.now index.old }
 {
@@ -119,7 +103,7 @@ fn list_longer(input: &[u8], index: &mut [u8]) -> BuildAnswer
 }
 
 // The index of an input; space has room for the starts of any that is not too long.
-fn list_with(input: &[u8], space: &mut [u32], index: &mut [u8]) -> BuildAnswer
+fn list_with(input: &[u8], space: &mut [u32], index: &mut [u8]) -> Result<Built, Refusal>
     requires { length space.old ≡ 4096 }
     ensures { built_of result index.new ≡ lines_call input.now index.old }
 {
@@ -131,7 +115,7 @@ fn list_with(input: &[u8], space: &mut [u32], index: &mut [u8]) -> BuildAnswer
 }
 
 // The outcome of the program lines: the answer for an input, and the index written.
-pub fn list_index(input: &[u8], index: &mut [u8]) -> BuildAnswer
+pub fn list_index(input: &[u8], index: &mut [u8]) -> Result<Built, Refusal>
     ensures { built_of result index.new ≡ lines_call input.now index.old }
 {
     let mut space = [0u32; 4096];

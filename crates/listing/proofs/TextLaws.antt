@@ -6,8 +6,8 @@ use native.Mathlib.Numerals.{add-one}
 use native.Mathlib.Omega.{arith}
 use mathlib.Core.List.{List, [], ◌∷◌}
 use borrow.Author.Tests.{eq-eqb, ne_eqb}
-use lib.ListN.{length, get_or, drop, set}
-use lib.Seq.{slice, slice_empty, slice-cons}
+use lib.ListN.{length, get_or, drop, set, drop_of_length-le}
+use lib.Seq.{drop-cons}
 use Rattle.records.specs.declared.Rec.{Rec}
 use Rattle.records.specs.Records.{zero_rec}
 use Rattle.listing.specs.Text.{digits, decimal, line_of, lines_of}
@@ -53,16 +53,16 @@ line-fields r a b c d e text p q s t u =
     (s ∙ ap (λ (x : List ℕ). decimal r.half (32 ∷ x)) (q ∙ ap (λ (x : List ℕ). decimal r.word (32 ∷ x)) p)))
 
 -- one more line, before those that stand
-pub lines_more : (rs : List Rec) (r : Rec) (i to : ℕ) (before after : List ℕ) → i < to → to ≤ length rs → r ≡ get_or rs i zero_rec
-    → before ≡ lines_of (slice (i + 1) to rs) [] → after ≡ line_of r before → after ≡ lines_of (slice i to rs) []
+pub lines_more : (rs : List Rec) (r : Rec) (i : ℕ) (before after : List ℕ) → i < length rs → r ≡ get_or rs i zero_rec
+    → before ≡ lines_of (drop (i + 1) rs) [] → after ≡ line_of r before → after ≡ lines_of (drop i rs) []
 unfolding lines_of
-lines_more rs r i to before after h k e p q =
-    q ∙ ap (λ (x : List ℕ). line_of r x) p ∙ ap (λ (x : Rec). line_of x (lines_of (slice (i + 1) to rs) [])) e
-    ∙ sym (rw (slice-cons i to rs zero_rec h k, add-one i) refl)
+lines_more rs r i before after h e p q =
+    q ∙ ap (λ (x : List ℕ). line_of r x) p ∙ ap (λ (x : Rec). line_of x (lines_of (drop (i + 1) rs) [])) e
+    ∙ sym (rw (drop-cons rs i zero_rec h, add-one i) refl)
 
-pub lines_none : (rs : List Rec) (to : ℕ) → lines_of (slice to to rs) [] ≡ []
+pub lines_none : (rs : List Rec) (i : ℕ) → length rs ≤ i → lines_of (drop i rs) [] ≡ []
 unfolding lines_of
-lines_none rs to = rw (slice_empty to rs) refl
+lines_none rs i h = rw (drop_of_length-le rs h) refl
 
 -- the two turns of a number's loop, on the text
 module _ (text : List ℕ) (least i n : ℕ) (h : least < i) (l : i ≤ length text) where

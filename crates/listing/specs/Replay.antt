@@ -1,9 +1,7 @@
--- An input that is replayed stands in its buffer. For contracts of the programs that replay inputs. Assumes nothing.
-use Rattle.std.specs.Prelude.{ℕ, ◌≤◌}
-use Rattle.listing.specs.declared.replay.Next.{Next}
-use Rattle.listing.specs.declared.replay.Next.TheVariants.{Input, Nothing}
+-- An input that is replayed stands in its buffer. Assumes nothing.
+use Rattle.std.specs.Prelude.{ℕ, ◌≤◌, Option, None, Some}
 
 -- an input has at most as many bytes as the buffer
-abbrev pub Within : Next → ℕ → Type 0
-Within (Input len) n = len ≤ n
-Within Nothing n = Unit {0}
+abbrev pub Within : Option ℕ → ℕ → Type 0
+Within (Some len) n = len ≤ n
+Within None n = Unit {0}

@@ -4,11 +4,11 @@
 pub mod replay;
 
 ghost use Rattle.std.specs.Prelude.{◌≡◌, ◌+◌, ◌≤◌, ◌<◌, [], ◌∷◌, length, drop};
-ghost use Rattle.std.proofs.Math.Seq.{slice};
 ghost use Rattle.records.specs.Records.{records_of};
 ghost use Rattle.listing.specs.Text.{decimal, line_of, lines_of};
 
-use indexing_builder::BuildAnswer;
+use indexing_builder::Built;
+use indexing_iter::refusal::Refusal;
 use records::Rec;
 
 // Puts a number in decimal before a place, from its last digit back, and answers where it begins. No u64 has more than
@@ -19,17 +19,15 @@ pub fn put_number(text: &mut [u8], end: usize, n: u64) -> usize
     ensures text_after { drop result text.new ≡ decimal n (drop end text.old) }
 {
     let least = end - 20;
-    let mut i = end;
     let mut rest = n;
-    while least < i {
-        i -= 1;
+    for i in (least..end).rev() {
         text[i] = 48 + (rest % 10) as u8;
         rest /= 10;
         if rest == 0 {
             return i;
         }
     }
-    i
+    least
 }
 
 // Puts a number and the byte after it before a place.
@@ -56,67 +54,48 @@ fn put_line(text: &mut [u8], end: usize, r: Rec) -> usize
     put_field(text, sub_at, r.kind as u64, b' ')
 }
 
-// Puts the lines of the records from a place up to another at the end of text, the last line first, and answers where they begin.
-fn put_lines(text: &mut [u8], index: &[u8], from: usize, to: usize) -> usize
-    requires { (from ≤ to) × (to ≤ length (records_of index.now)) × (to ≤ from + 128) × (length text.old ≡ 13440) }
+// Puts the lines of at most 128 records at the end of text, the last line first, and answers where they begin.
+fn put_lines(text: &mut [u8], part: &[u8]) -> usize
+    requires { (length (records_of part.now) ≤ 128) × (length text.old ≡ 13440) }
     ensures upper_bound { result ≤ 13440 }
-    ensures text_after { drop result text.new ≡ lines_of (slice from to (records_of index.now)) [] }
+    ensures text_after { drop result text.new ≡ lines_of (records_of part.now) [] }
 {
     let mut at = 13440;
-    let mut i = to;
-    while from < i {
-        i -= 1;
-        at = put_line(text, at, records::get(index, i));
+    for i in (0..records::capacity(part)).rev() {
+        at = put_line(text, at, records::get(part, i));
     }
     at
 }
 
-fn print_lines(text: &mut [u8], index: &[u8], from: usize, to: usize)
-    requires { (from ≤ to) × (to ≤ length (records_of index.now)) × (to ≤ from + 128) × (length text.old ≡ 13440) }
+// The lines are bytes that are proved equal to a definition, so they are written as they are.
+fn print_lines(text: &mut [u8], part: &[u8])
+    requires { (length (records_of part.now) ≤ 128) × (length text.old ≡ 13440) }
 {
-    let at = put_lines(text, index, from, to);
+    let at = put_lines(text, part);
     io::write_all(1, &text[at..]);
 }
 
 // Prints at most 128 records in one go.
-fn print_part(index: &[u8], from: usize, to: usize)
-    requires { (from ≤ to) × (to ≤ length (records_of index.now)) × (to ≤ from + 128) }
+fn print_part(part: &[u8])
+    requires { length (records_of part.now) ≤ 128 }
 {
     let mut text = [0u8; 13440];
-    print_lines(&mut text, index, from, to);
-}
-
-// Where the part that begins at a place ends.
-pub fn part_end(from: usize, n: usize) -> usize
-    requires { from < n }
-    ensures { (from < result) × (result ≤ n) × (result ≤ from + 128) }
-{
-    if n - from < 128 {
-        return n;
-    }
-    from + 128
+    print_lines(&mut text, part);
 }
 
 // Prints n records of an index.
 fn print_records(index: &[u8], n: usize)
     requires { n ≤ length (records_of index.now) }
 {
-    let mut i = 0;
-    while i < n {
-        let end = part_end(i, n);
-        print_part(index, i, end);
-        i = end;
+    for from in (0..n).step_by(128) {
+        let part = records::part(index, from, from + (n - from).min(128));
+        print_part(part);
     }
 }
 
 // Prints the first n records of an index, or all.
 pub fn print_index(index: &[u8], n: usize) {
-    let most = records::capacity(index);
-    if n < most {
-        print_records(index, n);
-        return;
-    }
-    print_records(index, most);
+    print_records(index, n.min(records::capacity(index)));
 }
 
 // Prints a line that ends in a number.
@@ -126,15 +105,16 @@ pub fn print_numbered(text: &[u8], n: u64) {
     io::write_all(1, b"\n");
 }
 
+// Prints the line of a refusal.
+pub fn print_refusal(e: Refusal) {
+    print_numbered(b"refused ", u64::from(e.number()));
+}
+
 // Prints an answer, with the index that was left.
-fn print_answer(a: BuildAnswer, index: &[u8]) {
+fn print_answer(a: Result<Built, Refusal>, index: &[u8]) {
     match a {
-        BuildAnswer::Done { count, variable: _ } => {
-            print_index(index, count);
-        }
-        BuildAnswer::Refused(number) => {
-            print_numbered(b"refused ", number as u64);
-        }
+        Ok(built) => print_index(index, built.count),
+        Err(e) => print_refusal(e),
     }
 }
 

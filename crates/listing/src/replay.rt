@@ -3,14 +3,8 @@
 ghost use Rattle.std.specs.Prelude.{◌≤◌, length};
 ghost use Rattle.listing.specs.Replay.{Within};
 
+use inputs::part::Part;
 use records::Rec;
-
-// What comes next: an input of so many bytes, which stands at the front of the buffer, or none that is whole and fits.
-#[derive(Clone, Copy)]
-pub enum Next {
-    Input(usize),
-    Nothing,
-}
 
 fn read_head(head: &mut [u8]) -> Rec {
     let n = io::read_full(0, head);
@@ -24,24 +18,36 @@ fn read_part(buffer: &mut [u8], n: usize) -> bool
     io::read_full(0, &mut buffer[..n]) == n
 }
 
-// Reads the next input and prints its number.
-pub fn next_input(buffer: &mut [u8], number: u64) -> Next
+// Reads the next input and prints its number. Answers how many bytes it has, which stand at the front of the buffer; none where no whole input
+// that fits comes next.
+fn next_input(buffer: &mut [u8], number: u64) -> Option<usize>
     ensures { Within result (length buffer.old) }
 {
     let mut head = [0u8; 16];
     let first = read_head(&mut head);
-    let kind = first.kind;
     let len = first.word as usize;
-    let whole = (len + 15) / 16 * 16;
-    if kind != 246 {
-        return Next::Nothing;
+    let whole = len.div_ceil(16) * 16;
+    if first.kind != Part::Input as u8 {
+        return None;
     }
     if buffer.len() < whole {
-        return Next::Nothing;
+        return None;
     }
-    if read_part(buffer, whole) {
-        crate::print_numbered(b"input ", number);
-        return Next::Input(len);
+    if !read_part(buffer, whole) {
+        return None;
     }
-    Next::Nothing
+    crate::print_numbered(b"input ", number);
+    Some(len)
+}
+
+// Replays the inputs of the list, a million at most: print is called with each.
+pub fn replay<F: FnMut(&[u8])>(buffer: &mut [u8], mut print: F)
+    requires { F.IsAlwaysCallable print }
+{
+    for number in 0..1000000 {
+        let Some(len) = next_input(buffer, number) else {
+            return;
+        };
+        print(&buffer[..len]);
+    }
 }

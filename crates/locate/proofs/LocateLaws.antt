@@ -2,7 +2,7 @@
 -- Every law holds for any class function. Assumes nothing.
 use Prim.Native.Nat.{ℕ, zero, suc, ◌+◌, ◌-◌, ◌/◌, ◌%◌, ◌≤◌, ◌<◌}
 use mathlib.Core.Path.{◌≡◌, refl, sym, ap, ◌∙◌, subst}
-use mathlib.Core.Bool.{Bool, true, false, cond, not, ◌&&◌, ◌||◌, false≢true}
+use mathlib.Core.Bool.{Bool, true, false, cond, not, ◌&&◌, ◌||◌}
 use mathlib.Core.List.{List, [], ◌∷◌, map}
 use native.Mathlib.Nat.{le_of_suc-le-suc, not-suc-le-zero}
 use native.Mathlib.Numerals.{add-one}
@@ -15,18 +15,20 @@ use Rattle.records.specs.declared.Rec.{Rec}
 use Rattle.records.specs.Records.{records_of, zero_rec}
 use Rattle.indexing_iter.specs.declared.InstructionArg.{InstructionArg}
 use Rattle.indexing_iter.specs.declared.InstructionArg.TheVariants.{ArgedHead, ArglessHead, NonHead, Prologue}
-use Rattle.indexing_iter.specs.declared.Checked.{Checked}
-use Rattle.indexing_iter.specs.declared.Checked.TheVariants.{Passed, Refused}
+use Rattle.indexing_iter.specs.Refusals.{Checked, passed, refusal_number}
+use Rattle.std.specs.Prelude.{Ok, Err, Some, None}
+use Rattle.indexing_iter.specs.declared.refusal.Refusal.{Refusal}
+use Rattle.indexing_iter.specs.declared.refusal.Refusal.TheVariants.{Arity, ChosenArgument, CodeSize, Starts, KeyRecord, Register, OpenClause}
 use Rattle.indexing_iter.specs.declared.Fault.{Fault}
 use Rattle.indexing_iter.specs.Classes.{arg_of_class, instruction_arg}
 use Rattle.indexing_iter.specs.Keys.{key_in, is_open}
 use Rattle.indexing_iter.specs.Clauses.{end_of, clauses_of}
-use Rattle.indexing_iter.specs.Checks.{number_of, otherwise, rising_below, record_bad, register_bad, register_step, check_records, check_clause, check_clauses, open_somewhere, check_arity, check_chosen, check_size, check_starts, check_keyed, check_clauses_of, check_code, check_build}
-use Rattle.indexing_iter.specs.Faults.{first_at, fronts, is_refused, refused_at, open_at, bad_at, bare, fault_at, fault_by, check_with, fault_of}
+use Rattle.indexing_iter.specs.Checks.{otherwise, rising_below, record_bad, register_bad, register_step, check_records, check_clause, check_clauses, open_somewhere, check_arity, check_chosen, check_size, check_starts, check_keyed, check_clauses_of, check_code, check_build}
+use Rattle.indexing_iter.specs.Faults.{first_at, fronts, is_refused, refused_at, open_at, bad_at, bare, fault_at, fault_in, check_with, fault_of}
 use Rattle.indexing_iter.proofs.Parts.{slice-step, slice-done}
 use Rattle.indexing_iter.proofs.CheckLaws.{drop-step, rising-head, rising-drop, passed-both, arity-passed, chosen-passed, rising-passed}
 use Rattle.indexing_iter.proofs.Numbers.{Within, within-cond, within-otherwise, within-refuse, clause-number}
-use Rattle.locate.specs.Inner.{check_chosen_with, check_front, check_back}
+use Rattle.locate.specs.Inner.{check_chosen_with, check_front, check_back, at_clause}
 
 -- ---- the first item that passes a test
 
@@ -67,14 +69,14 @@ bad_step false Prologue arity last left rest = suc (rest last)
 bad_step false ArglessHead arity last left rest = suc (rest last)
 bad_step false (ArgedHead reg key) arity last left rest = cond (register_bad arity last reg) 0 (suc (rest reg))
 
-seven : (t : Bool) (x : Checked) (g : List Rec → Checked) (fs : List (List Rec)) → x ≡ Passed
-    → cond (is_refused (cond t (Refused 7) x)) 0 (suc (first_at (λ f. is_refused (cond t (Refused 7) (g f))) fs)) ≡ cond t 0 (suc (first_at (λ f. is_refused (g f)) fs))
+seven : (t : Bool) (x : Checked) (g : List Rec → Checked) (fs : List (List Rec)) → x ≡ passed
+    → cond (is_refused (cond t (Err Register) x)) 0 (suc (first_at (λ f. is_refused (cond t (Err Register) (g f))) fs)) ≡ cond t 0 (suc (first_at (λ f. is_refused (g f)) fs))
 seven true x g fs e = refl
 seven false x g fs e = rw e refl
 
-bad-cases : (bad : Bool) (a : InstructionArg) (arity last : ℕ) (g : List Rec → ℕ → Checked) (fs : List (List Rec)) → ((l : ℕ) → g [] l ≡ Passed)
-    → cond (is_refused (cond bad (Refused 6) (register_step a arity last (g [])))) 0
-    (suc (first_at (λ f. is_refused (cond bad (Refused 6) (register_step a arity last (g f)))) fs))
+bad-cases : (bad : Bool) (a : InstructionArg) (arity last : ℕ) (g : List Rec → ℕ → Checked) (fs : List (List Rec)) → ((l : ℕ) → g [] l ≡ passed)
+    → cond (is_refused (cond bad (Err KeyRecord) (register_step a arity last (g [])))) 0
+    (suc (first_at (λ f. is_refused (cond bad (Err KeyRecord) (register_step a arity last (g f)))) fs))
     ≡ bad_step bad a arity last (length fs) (λ l. first_at (λ f. is_refused (g f l)) fs)
 bad-cases true a arity last g fs e = refl
 bad-cases false NonHead arity last g fs e = ap suc (first-none fs)
@@ -127,99 +129,44 @@ pub clause-some : (n m : ℕ) (s : List ℕ) (k end : ℕ) → rising_below n s 
 clause-some n m s k end e h p q =
     rw (q, p) (rising-head n (get_or s k 0) (drop (k + 1) s) (subst (λ (l : List ℕ). rising_below n l ≡ true) (drop-step s k h) (rising-drop n s k e)))
 
--- ---- 5 to 7: the first clause that is refused decides
-
-module _ (cls : ℕ → ℕ) (arity : ℕ) where
-  abbrev refuses : List Rec → Bool
-  refuses rs = is_refused (check_clause cls arity rs)
-
-  -- the clause first refused, and the answer of all clauses
-  pub record Refusing (cs : List (List Rec)) : Type 0 where
-    pub answer : check_clauses cls arity cs ≡ check_clause cls arity (get_or cs (refused_at cls arity cs) [])
-    pub refused : is_refused (check_clause cls arity (get_or cs (refused_at cls arity cs) [])) ≡ true
-
-  pub refusing : (cs : List (List Rec)) → refused_at cls arity cs < length cs → Refusing cs
-  unfolding first_at check_clauses
-  refusing [] h = absurd (not-suc-le-zero h)
-  refusing (rs ∷ cs) h = go (check_clause cls arity rs) refl h (refusing cs)
-    where
-      go : (k : Checked) → check_clause cls arity rs ≡ k → cond (is_refused k) 0 (suc (first_at refuses cs)) < suc (length cs)
-          → (refused_at cls arity cs < length cs → Refusing cs) → Refusing (rs ∷ cs)
-      go (Refused n) e g f = record { answer = rw (e, e) refl; refused = rw (e, e) refl }
-      go Passed e g f =
-          let later = f (le_of_suc-le-suc g) in
-          record { answer = rw e later.answer; refused = rw e later.refused }
-
-  pub none-refused : (cs : List (List Rec)) → length cs ≤ refused_at cls arity cs → check_clauses cls arity cs ≡ Passed
-  unfolding first_at check_clauses
-  none-refused [] h = refl
-  none-refused (rs ∷ cs) h = go (check_clause cls arity rs) refl h (none-refused cs)
-    where
-      go : (k : Checked) → check_clause cls arity rs ≡ k → suc (length cs) ≤ cond (is_refused k) 0 (suc (first_at refuses cs))
-          → (length cs ≤ refused_at cls arity cs → check_clauses cls arity cs ≡ Passed) → otherwise (check_clause cls arity rs) (check_clauses cls arity cs) ≡ Passed
-      go (Refused n) e g f = absurd (not-suc-le-zero g)
-      go Passed e g f = rw e (f (le_of_suc-le-suc g))
-
--- ---- 8: the first clause with no key
-
-pub open-found : (cls : ℕ → ℕ) (c : ℕ) (cs : List (List Rec)) → open_at cls c cs < length cs → open_somewhere cls c cs ≡ true
-unfolding first_at open_somewhere
-open-found cls c [] h = absurd (not-suc-le-zero h)
-open-found cls c (rs ∷ cs) h = go (is_open (key_in cls rs c)) h (open-found cls c cs)
-  where
-    go : (t : Bool) → cond t 0 (suc (first_at (λ x. is_open (key_in cls x c)) cs)) < suc (length cs)
-        → (open_at cls c cs < length cs → open_somewhere cls c cs ≡ true) → (t || open_somewhere cls c cs) ≡ true
-    go true g f = refl
-    go false g f = f (le_of_suc-le-suc g)
-
-pub none_open : (cls : ℕ → ℕ) (c : ℕ) (cs : List (List Rec)) → length cs ≤ open_at cls c cs → open_somewhere cls c cs ≡ false
-unfolding first_at open_somewhere
-none_open cls c [] h = refl
-none_open cls c (rs ∷ cs) h = go (is_open (key_in cls rs c)) h (none_open cls c cs)
-  where
-    go : (t : Bool) → suc (length cs) ≤ cond t 0 (suc (first_at (λ x. is_open (key_in cls x c)) cs))
-        → (length cs ≤ open_at cls c cs → open_somewhere cls c cs ≡ false) → (t || open_somewhere cls c cs) ≡ false
-    go true g f = absurd (not-suc-le-zero g)
-    go false g f = f (le_of_suc-le-suc g)
-
 -- ---- which numbers there are
 
 pub front-number : (arity c : ℕ) (code starts : List ℕ) → Within 1 4 (check_front arity c code starts)
 front-number arity c code starts =
     within-otherwise 1 4 (check_chosen_with arity c) (otherwise (check_size code) (check_starts (length code / 16) starts))
-    (within-otherwise 1 4 (check_arity arity) (cond (eqb c 0) Passed (check_chosen arity c)) (within-refuse 1 4 (not (leb 1 arity && leb arity 32)) 1 (omega arith, omega arith))
-    (within-cond 1 4 (eqb c 0) Passed (check_chosen arity c) tt (within-refuse 1 4 (eqb c 0 || ltb arity c) 2 (omega arith, omega arith))))
-    (within-otherwise 1 4 (check_size code) (check_starts (length code / 16) starts) (within-refuse 1 4 (not (eqb (length code % 16) 0) || ltb 32768 (length code / 16)) 3 (omega arith, omega arith)) (within-refuse 1 4 (not (leb 1 (length starts) && (leb (length starts) 1024 && rising_below (length code / 16) starts))) 4 (omega arith, omega arith)))
+    (within-otherwise 1 4 (check_arity arity) (cond (eqb c 0) passed (check_chosen arity c)) (within-refuse 1 4 (not (leb 1 arity && leb arity 32)) Arity (omega arith, omega arith))
+    (within-cond 1 4 (eqb c 0) passed (check_chosen arity c) tt (within-refuse 1 4 (eqb c 0 || ltb arity c) ChosenArgument (omega arith, omega arith))))
+    (within-otherwise 1 4 (check_size code) (check_starts (length code / 16) starts) (within-refuse 1 4 (not (eqb (length code % 16) 0) || ltb 32768 (length code / 16)) CodeSize (omega arith, omega arith)) (within-refuse 1 4 (not (leb 1 (length starts) && (leb (length starts) 1024 && rising_below (length code / 16) starts))) Starts (omega arith, omega arith)))
 
 -- what the checks before the clauses' tell
-pub front-passed : (arity c : ℕ) (code starts : List ℕ) → check_front arity c code starts ≡ Passed → (c ≤ 32) × (rising_below (length (records_of code)) starts ≡ true)
+pub front-passed : (arity c : ℕ) (code starts : List ℕ) → check_front arity c code starts ≡ passed → (c ≤ 32) × (rising_below (length (records_of code)) starts ≡ true)
 front-passed arity c code starts e =
     let both = passed-both (check_chosen_with arity c) (otherwise (check_size code) (check_starts (length code / 16) starts)) e in
-    let first = passed-both (check_arity arity) (cond (eqb c 0) Passed (check_chosen arity c)) both.0 in
+    let first = passed-both (check_arity arity) (cond (eqb c 0) passed (check_chosen arity c)) both.0 in
     let later = passed-both (check_size code) (check_starts (length code / 16) starts) both.1 in
     (go (eqb c 0) refl first.1 (arity-passed arity first.0).1, rising-passed code starts later.1)
   where
-    go : (t : Bool) → eqb c 0 ≡ t → cond t Passed (check_chosen arity c) ≡ Passed → arity ≤ 32 → c ≤ 32
+    go : (t : Bool) → eqb c 0 ≡ t → cond t passed (check_chosen arity c) ≡ passed → arity ≤ 32 → c ≤ 32
     go true q f h = omega (arith, eqb-true c 0 q)
     go false q f h = omega (arith, (chosen-passed arity c f).1)
 
 -- ---- the checks in the order in which they are made
 
-code-order : (a s t k : Checked) → otherwise a (otherwise s (otherwise t k)) ≡ otherwise (otherwise (otherwise a Passed) (otherwise s t)) (otherwise k Passed)
-code-order (Refused n) s t k = refl
-code-order Passed (Refused n) t k = refl
-code-order Passed Passed (Refused n) k = refl
-code-order Passed Passed Passed (Refused n) = refl
-code-order Passed Passed Passed Passed = refl
+code-order : (a s t k : Checked) → otherwise a (otherwise s (otherwise t k)) ≡ otherwise (otherwise (otherwise a passed) (otherwise s t)) (otherwise k passed)
+code-order (Err n) s t k = refl
+code-order (Ok u) (Err n) t k = refl
+code-order (Ok u) (Ok v) (Err n) k = refl
+code-order (Ok u) (Ok v) (Ok w) (Err n) = refl
+code-order (Ok u) (Ok v) (Ok w) (Ok x) = refl
 
 build-order : (a b s t k e : Checked)
     → otherwise a (otherwise b (otherwise (otherwise s (otherwise t k)) e)) ≡ otherwise (otherwise (otherwise a b) (otherwise s t)) (otherwise k e)
-build-order (Refused n) b s t k e = refl
-build-order Passed (Refused n) s t k e = refl
-build-order Passed Passed (Refused n) t k e = refl
-build-order Passed Passed Passed (Refused n) k e = refl
-build-order Passed Passed Passed Passed (Refused n) e = refl
-build-order Passed Passed Passed Passed Passed e = refl
+build-order (Err n) b s t k e = refl
+build-order (Ok u) (Err n) s t k e = refl
+build-order (Ok u) (Ok v) (Err n) t k e = refl
+build-order (Ok u) (Ok v) (Ok w) (Err n) k e = refl
+build-order (Ok u) (Ok v) (Ok w) (Ok x) (Err n) e = refl
+build-order (Ok u) (Ok v) (Ok w) (Ok x) (Ok y) e = refl
 
 pub in_order : (cls : ℕ → ℕ) (arity c : ℕ) (code starts : List ℕ)
     → check_with cls arity c code starts ≡ otherwise (check_front arity c code starts) (check_back cls arity c (clauses_of (records_of code) starts))
@@ -228,26 +175,118 @@ in_order cls arity c code starts = go (eqb c 0)
   where
     go : (t : Bool)
         → cond t (check_code cls arity code starts) (check_build cls arity c code starts)
-        ≡ otherwise (otherwise (otherwise (check_arity arity) (cond t Passed (check_chosen arity c))) (otherwise (check_size code) (check_starts (length code / 16) starts)))
-        (otherwise (check_clauses cls arity (clauses_of (records_of code) starts)) (cond t Passed (check_keyed cls c (clauses_of (records_of code) starts))))
+        ≡ otherwise (otherwise (otherwise (check_arity arity) (cond t passed (check_chosen arity c))) (otherwise (check_size code) (check_starts (length code / 16) starts)))
+        (otherwise (check_clauses cls arity (clauses_of (records_of code) starts)) (cond t passed (check_keyed cls c (clauses_of (records_of code) starts))))
     go true = code-order (check_arity arity) (check_size code) (check_starts (length code / 16) starts) (check_clauses cls arity (clauses_of (records_of code) starts))
     go false =
         build-order (check_arity arity) (check_chosen arity c) (check_size code) (check_starts (length code / 16) starts) (check_clauses cls arity (clauses_of (records_of code) starts))
         (check_keyed cls c (clauses_of (records_of code) starts))
 
-pub told-front : (cls : ℕ → ℕ) (arity c : ℕ) (code starts : List ℕ) (a : Checked) (n m : ℕ) → a ≡ check_front arity c code starts → a ≡ Refused n → m ≡ number_of a
-    → bare m ≡ fault_of cls arity c code starts
+pub told-front : (cls : ℕ → ℕ) (arity c : ℕ) (code starts : List ℕ) (e : Refusal) → check_front arity c code starts ≡ Err e
+    → Some (bare e) ≡ fault_of cls arity c code starts
 unfolding fault_of
-told-front cls arity c code starts a n m e f g =
-    let w : Within 1 4 (Refused n) = subst (Within 1 4) (sym e ∙ f) (front-number arity c code starts) in
-    let small : n < 5 = omega (arith, w) in
-    rw (in_order cls arity c code starts, ← e, f, g, f, lt-ltb n 5 small) refl
+told-front cls arity c code starts e f =
+    let w : Within 1 4 (Err e) = subst (Within 1 4) f (front-number arity c code starts) in
+    let small : refusal_number e < 5 = omega (arith, w) in
+    rw (in_order cls arity c code starts, f, lt-ltb (refusal_number e) 5 small) refl
 
-pub told_back : (cls : ℕ → ℕ) (arity c : ℕ) (code starts : List ℕ) (f : Fault) → check_front arity c code starts ≡ Passed
-    → f ≡ fault_by cls arity c (records_of code) starts (number_of (check_back cls arity c (clauses_of (records_of code) starts)))
-    → f ≡ fault_of cls arity c code starts
+pub told_back : (cls : ℕ → ℕ) (arity c : ℕ) (code starts : List ℕ) → check_front arity c code starts ≡ passed
+    → fault_in cls arity c (records_of code) starts (check_back cls arity c (clauses_of (records_of code) starts)) ≡ fault_of cls arity c code starts
 unfolding fault_of
-told_back cls arity c code starts f e g = g ∙ rw (in_order cls arity c code starts, e) refl
+told_back cls arity c code starts e = rw (in_order cls arity c code starts, e) refl
+
+-- ---- 5 to 7, clause by clause
+
+clauses-number : (cls : ℕ → ℕ) (arity : ℕ) (cs : List (List Rec)) → Within 5 7 (check_clauses cls arity cs)
+unfolding check_clauses
+clauses-number cls arity [] = tt
+clauses-number cls arity (rs ∷ cs) = within-otherwise 5 7 (check_clause cls arity rs) (check_clauses cls arity cs) (clause-number cls arity rs) (clauses-number cls arity cs)
+
+-- of the clauses from clause i on the first that is refused, and the answer, are those of all clauses
+pub record RefusedFrom (cls : ℕ → ℕ) (arity : ℕ) (rs : List Rec) (starts : List ℕ) (i : ℕ) : Type 0 where
+  pub answer : check_clauses cls arity (clauses_of rs (drop i starts)) ≡ check_clauses cls arity (clauses_of rs starts)
+  pub at : i + refused_at cls arity (clauses_of rs (drop i starts)) ≡ refused_at cls arity (clauses_of rs starts)
+
+pub refused-start : (cls : ℕ → ℕ) (arity : ℕ) (rs : List Rec) (starts : List ℕ) → RefusedFrom cls arity rs starts 0
+refused-start cls arity rs starts = record { answer = refl; at = omega arith }
+
+module _ (cls : ℕ → ℕ) (arity : ℕ) (rs : List Rec) (starts : List ℕ) (i : ℕ) (clause : List Rec) where
+  -- clause i is passed over
+  pub refused_more : RefusedFrom cls arity rs starts i → clauses_of rs (drop i starts) ≡ clause ∷ clauses_of rs (drop (i + 1) starts)
+      → check_clause cls arity clause ≡ passed → RefusedFrom cls arity rs starts (i + 1)
+  unfolding check_clauses
+  refused_more R e p =
+      let test : List Rec → Bool = λ l. is_refused (check_clause cls arity l) in
+      let later : List (List Rec) = clauses_of rs (drop (i + 1) starts) in
+      let step : refused_at cls arity (clauses_of rs (drop i starts)) ≡ suc (refused_at cls arity later) =
+      first_step test (clauses_of rs (drop i starts)) clause later e ∙ rw p refl in
+      record {
+        answer = rw (e, p) at R.answer;
+        at = omega (arith, R.at, step);
+      }
+
+  -- clause i is the first that is refused
+  pub refused-here : (r : Refusal) → RefusedFrom cls arity rs starts i → clauses_of rs (drop i starts) ≡ clause ∷ clauses_of rs (drop (i + 1) starts)
+      → check_clause cls arity clause ≡ Err r
+      → Some (fault_at cls arity rs starts r i) ≡ at_clause cls arity rs starts (refused_at cls arity (clauses_of rs starts)) (check_clauses cls arity (clauses_of rs starts))
+  unfolding check_clauses
+  refused-here r R e p =
+      let test : List Rec → Bool = λ l. is_refused (check_clause cls arity l) in
+      let later : List (List Rec) = clauses_of rs (drop (i + 1) starts) in
+      let step : refused_at cls arity (clauses_of rs (drop i starts)) ≡ 0 = first_step test (clauses_of rs (drop i starts)) clause later e ∙ rw p refl in
+      let k : refused_at cls arity (clauses_of rs starts) ≡ i = omega (arith, R.at, step) in
+      let a : check_clauses cls arity (clauses_of rs starts) ≡ Err r = sym R.answer ∙ rw (e, p) refl in
+      rw (a, k) refl
+
+pub refused-none : (cls : ℕ → ℕ) (arity : ℕ) (rs : List Rec) (starts : List ℕ) (i : ℕ) → RefusedFrom cls arity rs starts i → clauses_of rs (drop i starts) ≡ []
+    → None ≡ at_clause cls arity rs starts (refused_at cls arity (clauses_of rs starts)) (check_clauses cls arity (clauses_of rs starts))
+unfolding check_clauses
+refused-none cls arity rs starts i R e =
+    let a : check_clauses cls arity (clauses_of rs starts) ≡ passed = sym R.answer ∙ rw e refl in
+    rw a refl
+
+-- ---- 8, clause by clause
+
+-- of the clauses from clause i on the first with no key at c, and whether there is one, are those of all clauses
+pub record OpenFrom (cls : ℕ → ℕ) (c : ℕ) (rs : List Rec) (starts : List ℕ) (i : ℕ) : Type 0 where
+  pub answer : open_somewhere cls c (clauses_of rs (drop i starts)) ≡ open_somewhere cls c (clauses_of rs starts)
+  pub at : i + open_at cls c (clauses_of rs (drop i starts)) ≡ open_at cls c (clauses_of rs starts)
+
+pub open-start : (cls : ℕ → ℕ) (c : ℕ) (rs : List Rec) (starts : List ℕ) → OpenFrom cls c rs starts 0
+open-start cls c rs starts = record { answer = refl; at = omega arith }
+
+module _ (cls : ℕ → ℕ) (c : ℕ) (rs : List Rec) (starts : List ℕ) (i : ℕ) (clause : List Rec) where
+  -- clause i is passed over
+  pub open_more : OpenFrom cls c rs starts i → clauses_of rs (drop i starts) ≡ clause ∷ clauses_of rs (drop (i + 1) starts)
+      → is_open (key_in cls clause c) ≡ false → OpenFrom cls c rs starts (i + 1)
+  unfolding open_somewhere
+  open_more R e p =
+      let later : List (List Rec) = clauses_of rs (drop (i + 1) starts) in
+      let step : open_at cls c (clauses_of rs (drop i starts)) ≡ suc (open_at cls c later) =
+      first_step (λ l. is_open (key_in cls l c)) (clauses_of rs (drop i starts)) clause later e ∙ rw p refl in
+      record {
+        answer = rw (e, p) at R.answer;
+        at = omega (arith, R.at, step);
+      }
+
+  -- clause i is the first with no key at c
+  pub open-here : (arity : ℕ) → OpenFrom cls c rs starts i → clauses_of rs (drop i starts) ≡ clause ∷ clauses_of rs (drop (i + 1) starts)
+      → is_open (key_in cls clause c) ≡ true
+      → Some (fault_at cls arity rs starts OpenClause i) ≡ at_clause cls arity rs starts (open_at cls c (clauses_of rs starts)) (check_keyed cls c (clauses_of rs starts))
+  unfolding open_somewhere
+  open-here arity R e p =
+      let later : List (List Rec) = clauses_of rs (drop (i + 1) starts) in
+      let step : open_at cls c (clauses_of rs (drop i starts)) ≡ 0 = first_step (λ l. is_open (key_in cls l c)) (clauses_of rs (drop i starts)) clause later e ∙ rw p refl in
+      let k : open_at cls c (clauses_of rs starts) ≡ i = omega (arith, R.at, step) in
+      let a : open_somewhere cls c (clauses_of rs starts) ≡ true = sym R.answer ∙ rw (e, p) refl in
+      rw (a, k) refl
+
+pub open-none : (cls : ℕ → ℕ) (c arity : ℕ) (rs : List Rec) (starts : List ℕ) (i : ℕ) → OpenFrom cls c rs starts i → clauses_of rs (drop i starts) ≡ []
+    → None ≡ at_clause cls arity rs starts (open_at cls c (clauses_of rs starts)) (check_keyed cls c (clauses_of rs starts))
+unfolding open_somewhere
+open-none cls c arity rs starts i R e =
+    let a : open_somewhere cls c (clauses_of rs starts) ≡ false = sym R.answer ∙ rw e refl in
+    rw a refl
 
 -- ---- 5 to 8 of the clauses
 
@@ -255,28 +294,38 @@ module _ (cls : ℕ → ℕ) (arity c : ℕ) (rs : List Rec) (starts : List ℕ)
   abbrev all : List (List Rec)
   all = clauses_of rs starts
 
-  -- by the answer of the clause first refused
-  pub told-refused : (k n : ℕ) → k ≡ refused_at cls arity all → k < length starts → n ≡ number_of (check_clause cls arity (get_or all k []))
-      → fault_at cls arity rs starts n k ≡ fault_by cls arity c rs starts (number_of (check_back cls arity c all))
-  told-refused k n e h q =
-      let r = refusing cls arity all (omega (arith, length-clauses rs starts)) in
-      go (check_clause cls arity (get_or all (refused_at cls arity all) [])) refl r
+  -- the clause first refused decides
+  pub back-refused : (f : Fault) → Some f ≡ at_clause cls arity rs starts (refused_at cls arity all) (check_clauses cls arity all)
+      → Some f ≡ fault_in cls arity c rs starts (check_back cls arity c all)
+  back-refused f e = go (check_clauses cls arity all) refl e
     where
-      go : (x : Checked) → check_clause cls arity (get_or all (refused_at cls arity all) []) ≡ x → Refusing cls arity all
-          → fault_at cls arity rs starts n k ≡ fault_by cls arity c rs starts (number_of (check_back cls arity c all))
-      go Passed f r = absurd (false≢true (rw f at r.refused))
-      go (Refused m) f r =
-          let w : Within 5 7 (Refused m) = subst (Within 5 7) f (clause-number cls arity (get_or all (refused_at cls arity all) [])) in
-          let large : 5 ≤ m = w.0 in
-          let other : m ≡ 8 → ⊥ = λ z. omega (arith, w) in
-          rw (r.answer, f, le-ltb m 5 large, ne_eqb m 8 other, q, e, f, ne_eqb m 8 other) refl
+      go : (x : Checked) → check_clauses cls arity all ≡ x → Some f ≡ at_clause cls arity rs starts (refused_at cls arity all) x
+          → Some f ≡ fault_in cls arity c rs starts (check_back cls arity c all)
+      go (Ok u) q g = (cc)
+      go (Err r) q g =
+          let w : Within 5 7 (Err r) = subst (Within 5 7) q (clauses-number cls arity all) in
+          let large : 5 ≤ refusal_number r = w.0 in
+          let other : refusal_number r ≡ 8 → ⊥ = λ z. omega (arith, w) in
+          g ∙ rw (q, le-ltb (refusal_number r) 5 large, ne_eqb (refusal_number r) 8 other) refl
 
-  pub told-open : (k : ℕ) → k ≡ open_at cls c all → length all ≤ refused_at cls arity all → k < length starts → eqb c 0 ≡ false
-      → fault_at cls arity rs starts 8 k ≡ fault_by cls arity c rs starts (number_of (check_back cls arity c all))
-  told-open k e h l z =
-      rw (none-refused cls arity all h, z, open-found cls c all (omega (arith, length-clauses rs starts)), e) refl
+  -- no clause is refused, and there is no c
+  pub back_none : None ≡ at_clause cls arity rs starts (refused_at cls arity all) (check_clauses cls arity all) → eqb c 0 ≡ true
+      → None ≡ fault_in cls arity c rs starts (check_back cls arity c all)
+  back_none e z = go (check_clauses cls arity all) refl e
+    where
+      go : (x : Checked) → check_clauses cls arity all ≡ x → None ≡ at_clause cls arity rs starts (refused_at cls arity all) x
+          → None ≡ fault_in cls arity c rs starts (check_back cls arity c all)
+      go (Ok u) q g = rw (q, z) refl
+      go (Err r) q g = (cc)
 
-  pub told_none : (t : Bool) → eqb c 0 ≡ t → length all ≤ refused_at cls arity all → (t ≡ false → length all ≤ open_at cls c all)
-      → bare 0 ≡ fault_by cls arity c rs starts (number_of (check_back cls arity c all))
-  told_none true z h l = rw (none-refused cls arity all h, z) refl
-  told_none false z h l = rw (none-refused cls arity all h, z, none_open cls c all (l refl)) refl
+  -- no clause is refused: the first that is open at c decides
+  pub back-open : None ≡ at_clause cls arity rs starts (refused_at cls arity all) (check_clauses cls arity all) → eqb c 0 ≡ false
+      → at_clause cls arity rs starts (open_at cls c all) (check_keyed cls c all) ≡ fault_in cls arity c rs starts (check_back cls arity c all)
+  back-open e z = go (check_clauses cls arity all) refl (open_somewhere cls c all) refl e
+    where
+      go : (x : Checked) → check_clauses cls arity all ≡ x → (o : Bool) → open_somewhere cls c all ≡ o
+          → None ≡ at_clause cls arity rs starts (refused_at cls arity all) x
+          → at_clause cls arity rs starts (open_at cls c all) (check_keyed cls c all) ≡ fault_in cls arity c rs starts (check_back cls arity c all)
+      go (Ok u) q true o g = rw (q, z, o) refl
+      go (Ok u) q false o g = rw (q, z, o) refl
+      go (Err r) q o p g = (cc)

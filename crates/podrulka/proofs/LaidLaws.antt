@@ -1,25 +1,24 @@
--- Values laid over the first places of an array: the ends of the loop. Assumes nothing.
-use mathlib.Core.Path.{◌≡◌, sym, ap, ◌∙◌}
-use Prim.Native.Nat.{ℕ, ◌≤◌}
+-- Values laid over the first places of an array, as many as it has. Assumes nothing.
+use mathlib.Core.Path.{◌≡◌, sym, ap, ap₂, ◌∙◌}
+use Prim.Native.Nat.{ℕ, ◌≤◌, min}
 use native.Mathlib.Omega.{arith}
+use native.Mathlib.Decide.{dec_le}
 use mathlib.Core.List.{List, ◌++◌}
 use lib.ListN.{length, take, drop, drop_of_length-le}
 use lib.Seq.{take_all}
-use Rattle.indexing_walk.proofs.OuterLaws.{copied_to, copy-end}
 use Rattle.podrulka.specs.Face.{laid}
 
--- every value has its place
-pub laid-all : (values array : List ℕ) (i : ℕ) → i ≡ length values → i ≤ length array → copied_to values array i ≡ laid values array
+pub laid_front : (values array front : List ℕ) (n : ℕ) → n ≡ min (length values) (length array) → front ≡ take n values → front ++ drop n array ≡ laid values array
 unfolding laid
-laid-all values array i e h =
-    let l : length values ≤ length array = omega arith in
-    let m : length values ≤ length values = omega arith in
-    copy-end values array i (length values) e ∙ ap (λ (x : List ℕ). x ++ drop (length values) array) (take_all (length values) values m ∙ sym (take_all (length array) values l))
-
--- the array is too short
-pub laid-short : (values array : List ℕ) (i : ℕ) → i ≡ length array → i ≤ length values → copied_to values array i ≡ laid values array
-unfolding laid
-laid-short values array i e h =
-    let l : length array ≤ length values = omega arith in
-    let m : length array ≤ length array = omega arith in
-    copy-end values array i (length array) e ∙ ap (λ (x : List ℕ). take (length array) values ++ x) (drop_of_length-le array m ∙ sym (drop_of_length-le array l))
+laid_front values array front n e f = go (dec_le (length values) (length array))
+  where
+    go : Dec (length values ≤ length array) → front ++ drop n array ≡ take (length array) values ++ drop (length values) array
+    go (yes h) =
+        let q : n ≡ length values = omega arith in
+        let l : length values ≤ n = omega arith in
+        ap₂ (λ (x y : List ℕ). x ++ y) (f ∙ take_all n values l ∙ sym (take_all (length array) values h)) (ap (λ (k : ℕ). drop k array) q)
+    go (no h) =
+        let q : n ≡ length array = omega arith in
+        let l : length array ≤ n = omega arith in
+        let m : length array ≤ length values = omega arith in
+        ap₂ (λ (x y : List ℕ). x ++ y) (f ∙ ap (λ (k : ℕ). take k values) q) (drop_of_length-le array l ∙ sym (drop_of_length-le array m))

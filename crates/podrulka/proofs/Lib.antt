@@ -1,2 +1,1 @@
 pub mod LaidLaws
-pub mod FaceLaws

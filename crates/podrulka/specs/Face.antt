@@ -1,13 +1,13 @@
 -- The face for C and Rust: settings from numbers, and each outcome's numbers in the order in which they stand in the lent array.
 -- Assumes nothing.
-use Rattle.std.specs.Prelude.{◌≡◌, ℕ, ◌/◌, ◌%◌, Bool, List, [], ◌∷◌, ◌++◌, eqb, length, take, drop}
+use Rattle.std.specs.Prelude.{◌≡◌, ℕ, ◌-◌, ◌/◌, ◌%◌, Bool, List, [], ◌∷◌, ◌++◌, eqb, length, take, drop, replicate, Option, None, Some, Result, Ok, Err}
 use Rattle.indexing_iter.specs.declared.Settings.{Settings}
-use Rattle.indexing_iter.specs.declared.Checked.{Checked}
+use Rattle.indexing_iter.specs.declared.refusal.Refusal.{Refusal}
+use Rattle.indexing_iter.specs.Refusals.{Checked, refusal_number}
 use Rattle.indexing_iter.specs.declared.Fault.{Fault}
 use Rattle.indexing.specs.Builder.{Built, Sized}
-use Rattle.indexing_scan.specs.declared.witness.Witnessed.{Witnessed}
 use Rattle.indexing_scan.specs.Calls.{Walked}
-use Rattle.indexing_scan.specs.Witness.{number_in, offset_in, Witnesses}
+use Rattle.indexing_scan.specs.Witness.{Witnessed, number_in, offset_in, Witnesses}
 
 -- the flag whose value is k
 abbrev pub flag_of : ℕ → ℕ → Bool
@@ -28,14 +28,24 @@ built_numbers b = b.number ∷ b.count ∷ b.variable ∷ []
 abbrev pub sized_numbers : Sized → List ℕ
 sized_numbers z = z.number ∷ z.count ∷ []
 
-abbrev pub fault_numbers : Fault → List ℕ
-fault_numbers f = f.number ∷ f.clause ∷ f.at ∷ []
+abbrev pub fault_numbers : Option Fault → List ℕ
+fault_numbers None = 0 ∷ 0 ∷ 0 ∷ []
+fault_numbers (Some f) = refusal_number f.refusal ∷ f.clause ∷ f.at ∷ []
 
 abbrev pub walked_numbers : Walked → List ℕ
 walked_numbers w = w.number ∷ w.case ∷ w.line ∷ w.count ∷ w.tables ∷ w.mark ∷ w.records ∷ []
 
 abbrev pub witnessed_numbers : Witnessed → List ℕ
 witnessed_numbers w = number_in w ∷ offset_in w ∷ []
+
+-- the number of an answer of any values, and the values, of which there are n; a refusal gives its number and zero in every other place
+abbrev pub number_told : Result (List ℕ) Refusal → ℕ
+number_told (Ok values) = 0
+number_told (Err e) = refusal_number e
+
+abbrev pub numbers_told : ℕ → Result (List ℕ) Refusal → List ℕ
+numbers_told n (Ok values) = values
+numbers_told n (Err e) = refusal_number e ∷ replicate (n - 1) 0
 
 -- the numbers of an answer of the witness, by its checks and the offsets of the clauses that agree
 unfoldable pub Found : Checked → List ℕ → List ℕ → List ℕ → Type 0

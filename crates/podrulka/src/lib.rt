@@ -2,23 +2,20 @@
 // include/podrulka.h declares the functions and says what each number means.
 #![tactic(auto)]
 
-ghost use Rattle.std.specs.Prelude.{◌≡◌, cond, [], ◌<◌};
-ghost use Rattle.indexing_iter.specs.Checks.{number_of};
+ghost use Rattle.std.specs.Prelude.{◌≡◌, [], ◌∷◌, ◌<◌, ◌≤◌};
+ghost use Rattle.indexing_iter.specs.Refusals.{number_of};
 ghost use Rattle.indexing_iter.specs.Classes.{class_of};
 ghost use Rattle.indexing_iter.specs.Faults.{fault_of};
 ghost use Rattle.indexing.specs.Builder.{build_call, size_call};
 ghost use Rattle.indexing_scan.specs.Calls.{walk_call, witness_checks, agreeing};
-ghost use Rattle.indexing_scan.specs.Witness.{number_in};
-ghost use Rattle.indexing_builder.specs.Answer.{built_of};
-ghost use Rattle.index_size.specs.Answer.{sized_of};
-ghost use Rattle.indexing_walk.specs.Answers.{walked_of};
-ghost use Rattle.podrulka.specs.Face.{flag_of, settings_by, laid, built_numbers, sized_numbers, fault_numbers, walked_numbers, witnessed_numbers, Found};
+ghost use Rattle.indexing_scan.specs.Witness.{found_in};
+ghost use Rattle.indexing_walk.specs.Answers.{told_by};
+ghost use Rattle.podrulka.specs.Face.{flag_of, settings_by, laid, built_numbers, sized_numbers, fault_numbers, walked_numbers, number_told, numbers_told, Found};
 
-use index_size::SizeAnswer;
-use indexing_builder::BuildAnswer;
-use indexing_iter::Settings;
-use indexing_scan::witness::Witnessed;
-use indexing_walk::WalkAnswer;
+use indexing_builder::Built;
+use indexing_iter::refusal::Refusal;
+use indexing_iter::{Fault, Settings};
+use indexing_walk::Ended;
 
 // The flag whose value is k.
 fn flag(flags: u32, k: u32) -> bool
@@ -46,105 +43,75 @@ fn settings_by(arity: u32, mask: u32, flags: u32) -> Settings
 fn lay(values: &[u64], res: &mut [u64])
     ensures { res.new ≡ laid values.now res.old }
 {
-    let mut i = 0;
-    while i < values.len() {
-        if res.len() <= i {
-            return;
-        }
-        res[i] = values[i];
-        i += 1;
-    }
+    let n = values.len().min(res.len());
+    res[..n].copy_from_slice(&values[..n]);
 }
 
-// Writes the builder's answer, and returns its number.
-fn lay_built(a: BuildAnswer, res: &mut [u64]) -> u32
-    ensures value { result ≡ (built_of a []).number }
-    ensures res_after { res.new ≡ laid (built_numbers (built_of a [])) res.old }
+// Writes an answer's values, or the refusal's number and zeros, and returns the number.
+fn lay_answer<const N: usize>(answer: Result<[u64; N], Refusal>, res: &mut [u64]) -> u32
+    requires { (2 ≤ N) × (N ≤ 7) }
+    ensures value { result ≡ number_told answer.entry }
+    ensures res_after { res.new ≡ laid (numbers_told N answer.entry) res.old }
 {
-    match a {
-        BuildAnswer::Done { count, variable } => {
-            let values = [0u64, count as u64, variable as u64];
+    match answer {
+        Ok(values) => {
             lay(&values, res);
             0
         }
-        BuildAnswer::Refused(number) => {
-            let values = [number as u64, 0, 0];
+        Err(e) => {
+            let number = e.number();
+            let mut values = [0; N];
+            values[0] = number as u64;
             lay(&values, res);
             number
         }
     }
 }
 
-// Writes the size's answer, and returns its number.
-fn lay_sized(a: SizeAnswer, res: &mut [u64]) -> u32
-    ensures value { result ≡ (sized_of a).number }
-    ensures res_after { res.new ≡ laid (sized_numbers (sized_of a)) res.old }
+// The values of the builder's answer.
+fn built_values(b: Built) -> [u64; 3]
+    ensures { result ≡ 0 ∷ b.count ∷ b.variable ∷ [] }
 {
-    match a {
-        SizeAnswer::Needs(count) => {
-            let values = [0u64, count as u64];
-            lay(&values, res);
-            0
-        }
-        SizeAnswer::Refused(number) => {
-            let values = [number as u64, 0u64];
-            lay(&values, res);
-            number
-        }
-    }
+    [0, b.count as u64, b.variable as u64]
 }
 
-// The mark: 0 stored, 1 unstored.
-fn mark_of(whole: bool) -> u64
-    ensures { result ≡ cond whole 0 1 }
+// The value of the size's answer.
+fn sized_values(count: usize) -> [u64; 2]
+    ensures { result ≡ 0 ∷ count ∷ [] }
 {
-    if whole { 0 } else { 1 }
+    [0, count as u64]
 }
 
-// Writes the walk's answer, and returns its number.
-fn lay_walked(a: WalkAnswer, res: &mut [u64]) -> u32
-    ensures value { result ≡ (walked_of a [] []).number }
-    ensures res_after { res.new ≡ laid (walked_numbers (walked_of a [] [])) res.old }
+// The value of the witness's answer, 0 where no clause agrees.
+fn found_values(offset: Option<u32>) -> [u64; 2]
+    ensures { result ≡ 0 ∷ found_in offset ∷ [] }
 {
-    match a {
-        WalkAnswer::Answered(e) => {
-            let mark = mark_of(e.whole);
-            let values = [
-                0u64,
-                e.case as u64,
-                e.line as u64,
-                e.count as u64,
-                e.tables as u64,
-                mark,
-                e.records as u64,
-            ];
-            lay(&values, res);
-            0
-        }
-        WalkAnswer::Refused(number) => {
-            let values = [number as u64, 0, 0, 0, 0, 0, 0];
-            lay(&values, res);
-            number
-        }
-    }
+    [0, u64::from(offset.unwrap_or(0))]
 }
 
-// Writes the witness's answer, and returns its number.
-fn lay_witnessed(a: Witnessed, res: &mut [u64]) -> u32
-    ensures value { result ≡ number_in a }
-    ensures res_after { res.new ≡ laid (witnessed_numbers a) res.old }
+// The values of a walk's answer; the mark is 0 stored, 1 unstored.
+fn walked_values(e: Ended) -> [u64; 7]
+    ensures { result ≡ walked_numbers (told_by e [] []) }
 {
-    match a {
-        Witnessed::Found(offset) => {
-            let values = [0u64, offset as u64];
-            lay(&values, res);
-            0
-        }
-        Witnessed::Refused(number) => {
-            let values = [number as u64, 0];
-            lay(&values, res);
-            number
-        }
+    let mark = u64::from(!e.whole);
+    [
+        0,
+        e.case as u64,
+        e.line as u64,
+        e.count as u64,
+        e.tables as u64,
+        mark,
+        e.records as u64,
+    ]
+}
+
+// The values of a fault, zeros where there is none.
+fn fault_values(fault: Option<Fault>) -> [u64; 3]
+    ensures { result ≡ fault_numbers fault }
+{
+    match fault {
+        Some(f) => [f.refusal.number() as u64, f.clause as u64, f.at as u64],
+        None => [0; 3],
     }
 }
 
@@ -166,7 +133,7 @@ pub extern "C" fn podrulka_build(
 {
     let settings = settings_by(arity, mask, flags);
     let a = indexing_builder::compute_indices(code, starts, settings, c, index);
-    lay_built(a, res)
+    lay_answer(a.map(built_values), res)
 }
 
 // The size of the index that the builder would write, whatever the room. Returns 0 or the refusal's number; res gets number, record count.
@@ -185,7 +152,7 @@ pub extern "C" fn podrulka_size(
 {
     let settings = settings_by(arity, mask, flags);
     let a = index_size::index_size(code, starts, settings, c);
-    lay_sized(a, res)
+    lay_answer(a.map(sized_values), res)
 }
 
 // What refuses code, starts, arity and c, c 0 for none; mask and flags refuse nothing. Returns 0; res gets the number, and the clause and
@@ -203,9 +170,8 @@ pub extern "C" fn podrulka_locate(
     ensures value { result ≡ 0 }
     ensures res_after { res.new ≡ laid (fault_numbers (fault_of class_of arity c code.now starts.now)) res.old }
 {
-    let f = locate::locate(code, starts, arity, c);
-    let values = [f.number as u64, f.clause as u64, f.at as u64];
-    lay(&values, res);
+    let fault = locate::locate(code, starts, arity, c);
+    lay(&fault_values(fault), res);
     0
 }
 
@@ -231,7 +197,7 @@ pub extern "C" fn podrulka_walk(
 {
     let settings = settings_by(arity, mask, flags);
     let a = indexing_walk::switch_on_term(code, starts, settings, call, index, count, out);
-    lay_walked(a, res)
+    lay_answer(a.map(walked_values), res)
 }
 
 // The witness. Returns 0 or the refusal's number; res gets number, offset of some clause that agrees with the call, 0 if there is none.
@@ -251,5 +217,5 @@ pub extern "C" fn podrulka_witness(
 {
     let settings = settings_by(arity, mask, flags);
     let a = indexing_scan::witness::witness(code, starts, settings, call);
-    lay_witnessed(a, res)
+    lay_answer(a.map(found_values), res)
 }

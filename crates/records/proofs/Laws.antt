@@ -3,12 +3,13 @@ use mathlib.Core.Path.{◌≡◌, refl, sym, ap, ap₂, ◌∙◌}
 use Prim.Native.Nat.{ℕ, zero, suc, ◌+◌, ◌-◌, ◌*◌, ◌/◌, ◌%◌, ◌≤◌, ◌<◌}
 use native.Mathlib.Nat.{zero-add, suc-add, suc-ne-zero, add-zero, suc-pred-eq_of_pos}
 use native.Mathlib.Omega.{arith}
-use mathlib.Core.List.{List, [], ◌∷◌, ◌++◌, append-nil}
+use mathlib.Core.List.{List, [], ◌∷◌, ◌++◌, append-nil, append_assoc}
 use lib.ListN.{length, get_or, take, drop, set, length-append, length-drop, take-append-drop, drop_of_length-le}
 use lib.Seq.{length-take-le, take-append-le, drop-append-le, drop-append-add, drop-drop, take_at, drop_at, get_or-drop, set_split, take_all}
 use Rattle.records.specs.Bytes.{le16, le32, le64, bytes16, bytes32, bytes64}
 use Rattle.records.specs.declared.Rec.{Rec}
 use Rattle.records.specs.Records.{decode, encode_rec, encode, recs, records_of, odd_of, zero_rec, Wrote}
+use Rattle.records.specs.Moves.{written}
 
 pub length-recs : (n : ℕ) (b : List ℕ) → length (recs n b) ≡ n
 unfolding recs
@@ -146,6 +147,23 @@ tail-out b y q h =
     ∙ records_of-append q (take (16 * q) b) y (length-take-le (16 * q) b h)
     ∙ ap (λ (x : List Rec). x ++ records_of y) (records_of-take q b h)
 
+-- a run of records stored from a place on
+pub run-records_of : (b y : List ℕ) (at n k : ℕ) → at + n ≤ length (records_of b) → length y ≡ 16 * n → k ≡ 16 * n
+    → records_of (take (16 * at) b ++ (y ++ drop k (drop (16 * at) b))) ≡ written (records_of b) at (records_of y)
+run-records_of b y at n k h e f =
+    let w : 16 * (at + n) ≤ length b = omega (arith, length-records_of b) in
+    let v : 16 * at ≤ length b = omega arith in
+    let l : length (records_of y) ≡ n = length-records_of y ∙ omega (arith, e) in
+    let q : 16 * at + k ≡ 16 * (at + n) = omega arith in
+    records_of-append at (take (16 * at) b) (y ++ drop k (drop (16 * at) b)) (length-take-le (16 * at) b v)
+    ∙ ap₂ (λ (s t : List Rec). s ++ t) (records_of-take at b v)
+    (records_of-append n y (drop k (drop (16 * at) b)) e
+    ∙ ap (λ (t : List Rec). records_of y ++ t)
+    (ap records_of (drop-drop k (16 * at) b ∙ ap (λ (i : ℕ). drop i b) q)
+    ∙ records_of-drop (at + n) b w
+    ∙ ap (λ (i : ℕ). drop (at + i) (records_of b)) (sym l)))
+    ∙ sym (append_assoc (take at (records_of b)) (records_of y) (drop (at + length (records_of y)) (records_of b)))
+
 -- odd bytes are those of what follows whole records
 pub odd-append : (k : ℕ) (a b : List ℕ) → length a ≡ 16 * k → odd_of (a ++ b) ≡ odd_of b
 unfolding odd_of
@@ -168,6 +186,17 @@ odd-put b y at k h e q =
     ∙ odd-append 1 y (drop k (drop (16 * at) b)) q
     ∙ ap odd_of (drop-drop k (16 * at) b ∙ ap (λ (n : ℕ). drop n b) f)
     ∙ odd-drop (suc at) b (omega arith)
+
+-- so does a run
+pub odd-run : (b y : List ℕ) (at n k : ℕ) → at + n ≤ length (records_of b) → length y ≡ 16 * n → k ≡ 16 * n
+    → odd_of (take (16 * at) b ++ (y ++ drop k (drop (16 * at) b))) ≡ odd_of b
+odd-run b y at n k h e f =
+    let w : 16 * (at + n) ≤ length b = omega (arith, length-records_of b) in
+    let q : 16 * at + k ≡ 16 * (at + n) = omega arith in
+    odd-append at (take (16 * at) b) (y ++ drop k (drop (16 * at) b)) (length-take-le (16 * at) b (omega arith))
+    ∙ odd-append n y (drop k (drop (16 * at) b)) e
+    ∙ ap odd_of (drop-drop k (16 * at) b ∙ ap (λ (i : ℕ). drop i b) q)
+    ∙ odd-drop (at + n) b w
 
 -- so does a part from record q on that came back with its own
 pub odd-tail : (b y : List ℕ) (q : ℕ) → 16 * q ≤ length b → odd_of y ≡ odd_of (take (length b - 16 * q) (drop (16 * q) b))

@@ -3,7 +3,8 @@ pub mod Filled
 pub mod Fitting
 pub mod Grown
 pub mod Laws
+pub mod LeBytes
 pub mod MoveLaws
+pub mod PartLaws
 pub mod PointerLaws
-pub mod Run
 pub mod Whole

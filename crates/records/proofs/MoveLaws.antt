@@ -1,11 +1,11 @@
 -- Laws of records moved up inside a list. Assumes nothing.
 use mathlib.Core.Path.{◌≡◌, sym, ap, ap₂, ◌∙◌}
 use Prim.Native.Nat.{ℕ, zero, suc, ◌+◌, ◌-◌, ◌≤◌, ◌<◌}
-use native.Mathlib.Nat.{suc-add, zero-add, not-suc-le-zero, le_of_suc-le-suc}
+use native.Mathlib.Nat.{zero-add, not-suc-le-zero, le_of_suc-le-suc}
 use native.Mathlib.Omega.{arith}
 use mathlib.Core.List.{List, [], ◌∷◌, ◌++◌, append_assoc}
-use lib.ListN.{length, get_or, take, drop, set, length-append, take-append-drop, get_or-append}
-use lib.Seq.{length-take-le, get_or-take, take-suc, append_snoc, set_at, slice, slice_empty, slice-cons, drop-drop, take-add, take-nil, length-slice, take-append-le, take-take, drop_at, take_at, drop-append-add}
+use lib.ListN.{length, take, drop, length-append}
+use lib.Seq.{length-take-le, slice, drop-drop, take-add, take-nil, length-slice, take-append-le, take-take, drop_at, take_at, drop-append-add}
 use Rattle.records.specs.Moves.{moved, gapped, written, spliced}
 use Rattle.records.specs.declared.Rec.{Rec}
 use Rattle.records.specs.Records.{records_of, Wrote}
@@ -20,32 +20,6 @@ slice-take (suc f) (suc t) (x ∷ l) h =
     slice-take f t l (le_of_suc-le-suc h) ∙ ap (λ (k : ℕ). take k (drop f l)) e
 
 module _ {ℓ} {A : Type ℓ} (l : List A) (n k : ℕ) (room : n + k ≤ length l) where
-  pub moved_none : l ≡ moved l n k n
-  moved_none = sym (ap (λ (x : List A). take (n + k) l ++ (x ++ drop (n + k) l)) (slice_empty n l) ∙ take-append-drop (n + k) l)
-
-  -- what the next turn reads is still as it was
-  pub moved-read : (m : List A) (i j : ℕ) (d : A) → i ≡ suc j → i ≤ n → m ≡ moved l n k i → get_or m j d ≡ get_or l j d
-  moved-read m i j d e h q =
-      let t : j < length (take (i + k) l) = rw (length-take-le (i + k) l (omega arith)) (omega arith) in
-      ap (λ (x : List A). get_or x j d) q
-      ∙ get_or-append (take (i + k) l) (slice i n l ++ drop (n + k) l) d j t
-      ∙ get_or-take (i + k) l j d (omega arith)
-
-  -- a turn
-  pub moved_more : (m m' : List A) (i j : ℕ) (r d : A) → i ≡ suc j → i ≤ n → m ≡ moved l n k i → r ≡ get_or m j d → m' ≡ set m (j + k) r → m' ≡ moved l n k j
-  moved_more m m' i j r d e h q g f =
-      let rest : List A = slice (suc j) n l ++ drop (n + k) l in
-      let p : List A = take (j + k) l in
-      let w : j + k < length l = omega arith in
-      let v : j < n = omega arith in
-      f
-      ∙ ap₂ (λ (x : List A) (y : A). set x (j + k) y) (q ∙ ap (λ (t : ℕ). moved l n k t) e) (g ∙ moved-read m i j d e h q)
-      ∙ ap (λ (t : ℕ). set (take t l ++ rest) (j + k) (get_or l j d)) (suc-add j k)
-      ∙ ap (λ (x : List A). set (x ++ rest) (j + k) (get_or l j d)) (take-suc l (j + k) d w)
-      ∙ ap (λ (x : List A). set x (j + k) (get_or l j d)) (append_snoc p (get_or l (j + k) d) rest)
-      ∙ set_at p (get_or l (j + k) d) rest (get_or l j d) (j + k) (length-take-le (j + k) l (omega arith))
-      ∙ ap (λ (x : List A). p ++ (x ++ drop (n + k) l)) (sym (slice-cons j n l d v (omega arith)))
-
   -- a part moved, said of the whole
   pub moved-part : (q : ℕ) → q ≤ n → take q l ++ moved (drop q l) (n - q) k 0 ≡ moved l n k q
   moved-part q h =

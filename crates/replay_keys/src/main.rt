@@ -4,17 +4,18 @@
 
 ghost use Rattle.std.specs.Prelude.{◌≡◌, true, ◌+◌, ◌*◌, ◌≤◌, length};
 ghost use Rattle.records.specs.Records.{records_of};
-ghost use Rattle.indexing_iter.specs.Classes.{class_of};
 ghost use Rattle.indexing_iter.specs.Clauses.{known};
-ghost use Rattle.indexing_iter.specs.Checks.{check_code};
 
-use indexing_iter::Checked;
+use indexing_iter::program::Program;
+use indexing_iter::refusal::Refusal;
+use indexing_iter::{Settings, checks};
 use records::Rec;
 
-fn number_of(a: Checked) -> u64 {
-    match a {
-        Checked::Passed => 0,
-        Checked::Refused(n) => n as u64,
+// The number of a check's answer, 0 where it passed.
+fn number_of<T>(answer: &Result<T, Refusal>) -> u64 {
+    match answer {
+        Ok(_) => 0,
+        Err(refusal) => u64::from(refusal.number()),
     }
 }
 
@@ -24,69 +25,71 @@ fn print(text: &[u8], n: u64) {
 }
 
 // The keys of the clause at an offset, in one line.
-fn show_clause(code: &[u8], starts: &[u32], arity: u32, offset: u32)
-    requires starts_value { check_code class_of arity code.now starts.now ≡ Checked.Passed }
-    requires offset_value { known starts.now offset ≡ true }
+fn show_clause(program: &Program, offset: u32)
+    requires { known program.now.starts.now offset ≡ true }
 {
     let mut heads = [0u32; 32];
     let mut bits = [0u64; 32];
-    indexing_iter::collect_opt_arg_index_keys(code, starts, arity, offset, &mut heads, &mut bits);
-    io::print_decimal(1, offset as u64);
-    show_keys(&heads, &bits, arity as usize);
+    indexing_iter::collect_opt_arg_index_keys(program, offset, &mut heads, &mut bits);
+    io::print_decimal(1, u64::from(offset));
+    let n = program.settings.arity as usize;
+    show_keys(&heads[..n], &bits[..n]);
 }
 
-fn show_keys(heads: &[u32; 32], bits: &[u64; 32], n: usize)
-    requires { n ≤ 32 }
-{
-    let mut j = 0;
-    while j < n {
-        show_key(heads[j], bits[j]);
-        j += 1;
+fn show_keys(heads: &[u32], bits: &[u64]) {
+    for (head, long) in heads.iter().zip(bits) {
+        show_key(*head, *long);
     }
     io::write_all(1, b"\n");
 }
 
 fn show_key(head: u32, bits: u64) {
-    print(b" ", (head / 65536) as u64);
-    print(b",", (head % 65536) as u64);
+    print(b" ", u64::from(head / 65536));
+    print(b",", u64::from(head % 65536));
     print(b",", bits);
 }
 
-fn show_clauses(code: &[u8], starts: &[u32], arity: u32)
-    requires { check_code class_of arity code.now starts.now ≡ Checked.Passed }
-{
-    let mut i = 0;
-    while i < starts.len() {
-        show_clause(code, starts, arity, starts[i] + 1);
-        i += 1;
+fn show_clauses(program: &Program) {
+    for start in program.starts {
+        show_clause(program, *start + 1);
     }
 }
 
-// The line of one case, and the clauses of accepted code if asked for.
-fn show(name: &[u8], n: u64, arity: u32, c: u64, code: &[u8], starts: &[u32], clauses: bool) {
-    let a = indexing_iter::checks::check_code(code, starts, arity);
-    let b = indexing_iter::checks::check_build(code, starts, arity, c);
-    print(name, n);
-    print(b" code ", number_of(a));
-    print(b" build ", number_of(b));
-    io::write_all(1, b"\n");
-    let Checked::Passed = a else {
-        return;
-    };
-    if clauses {
-        show_clauses(code, starts, arity);
+fn settings_of(arity: u32) -> Settings {
+    Settings {
+        arity,
+        mask: 0,
+        dynamic: false,
+        extensible: false,
+        non_counted: false,
+        skip: false,
     }
+}
+
+// The line of one case; accepted code is given back as a program.
+fn show<'a>(
+    name: &[u8],
+    n: u64,
+    arity: u32,
+    c: u64,
+    code: &'a [u8],
+    starts: &'a [u32],
+) -> Option<Program<'a>> {
+    let checked = Program::check(code, starts, settings_of(arity));
+    let built = checks::check_build(code, starts, arity, c);
+    print(name, n);
+    print(b" code ", number_of(&checked));
+    print(b" build ", number_of(&built));
+    io::write_all(1, b"\n");
+    checked.ok()
 }
 
 // The words of as many records as starts holds, from a place on.
 fn read_starts(input: &[u8], at: usize, starts: &mut [u32])
     requires { at + length starts.old ≤ length (records_of input.now) }
 {
-    let mut i = 0;
-    while i < starts.len() {
-        let r = records::get(input, at + i);
-        starts[i] = r.word;
-        i += 1;
+    for (i, start) in starts.iter_mut().enumerate() {
+        *start = records::get(input, at + i).word;
     }
 }
 
@@ -98,55 +101,54 @@ fn show_case(input: &[u8], at: usize, len: usize, n: u64, arity: u32, c: u64, st
     let from = 16 * (at + starts.len());
     let to = from + len;
     read_starts(input, at, starts);
-    show(b"case ", n, arity, c, &input[from..to], starts, true);
+    if let Some(program) = show(b"case ", n, arity, c, &input[from..to], starts) {
+        show_clauses(&program);
+    }
 }
 
-// Runs the case with the first record of its header, and answers the place after it, or 0 where it is too large or not whole.
-fn run_header(input: &[u8], at: usize, n: u64, first: Rec, len: usize, space: &mut [u32]) -> usize
+// Runs the case with the first record of its header, and answers the place after it, none where it is too large or not whole.
+fn run_header(
+    input: &[u8],
+    at: usize,
+    n: u64,
+    first: Rec,
+    len: usize,
+    space: &mut [u32],
+) -> Option<usize>
     requires { at ≤ length (records_of input.now) }
 {
     let k = first.word as usize;
-    if space.len() < k {
-        return 0;
+    if space.len() < k || 262144 < len {
+        return None;
     }
-    if 262144 < len {
-        return 0;
-    }
-    let size = (len + 15) / 16;
+    let size = len.div_ceil(16);
     let after = at + k + size;
     if records::capacity(input) < after {
-        return 0;
+        return None;
     }
-    let arity = first.half as u32;
+    let arity = u32::from(first.half);
     show_case(input, at, len, n, arity, first.long, &mut space[..k]);
-    after
+    Some(after)
 }
 
-// Runs the case that begins at a place, and answers the place after it, or 0 where no whole case is left.
-fn run_case(input: &[u8], at: usize, n: u64) -> usize {
-    let end = records::capacity(input);
-    if end <= at {
-        return 0;
-    }
-    if end - at < 2 {
-        return 0;
+// Runs the case that begins at a place, and answers the place after it, none where no whole case is left.
+fn run_case(input: &[u8], at: usize, n: u64) -> Option<usize> {
+    if records::capacity(input).saturating_sub(at) < 2 {
+        return None;
     }
     let first = records::get(input, at);
     let second = records::get(input, at + 1);
-    let len = second.word as usize;
     let mut space = [0u32; 1100];
-    run_header(input, at + 2, n, first, len, &mut space)
+    run_header(input, at + 2, n, first, second.word as usize, &mut space)
 }
 
 fn run_cases(input: &[u8]) {
     let mut at = 0;
-    let mut n = 0;
-    while n < 100000 {
-        at = run_case(input, at, n);
-        if at == 0 {
+    for n in 0..100000 {
+        let Some(after) = run_case(input, at, n) else {
             return;
-        }
-        n += 1;
+        };
+        at = after;
     }
 }
 
@@ -159,7 +161,7 @@ fn show_records(code: &mut [u8], n: usize)
     code[4] = 1;
     code[16 * (n - 1)] = 64;
     let starts = [0u32];
-    show(b"records ", n as u64, 1, 1, &code[..16 * n], &starts, false);
+    show(b"records ", n as u64, 1, 1, &code[..16 * n], &starts);
 }
 
 fn run_records(n: usize)
@@ -173,11 +175,9 @@ fn set_bodies(code: &mut [u8], starts: &mut [u32])
     requires starts_in_bounds { 16 * length starts.old ≤ length code.old }
     requires starts_len_bound { length starts.old ≤ 1025 }
 {
-    let mut i = 0;
-    while i < starts.len() {
+    for i in 0..starts.len() {
         code[16 * i] = 64;
         starts[i] = i as u32;
-        i += 1;
     }
 }
 
@@ -188,15 +188,7 @@ fn show_starts(code: &mut [u8], starts: &mut [u32], n: usize)
 {
     set_bodies(code, starts);
     let end = 16 * n;
-    show(
-        b"starts ",
-        n as u64,
-        1,
-        1,
-        &code[..end],
-        &starts[..n],
-        false,
-    );
+    show(b"starts ", n as u64, 1, 1, &code[..end], &starts[..n]);
 }
 
 fn run_starts(n: usize)

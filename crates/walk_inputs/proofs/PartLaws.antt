@@ -1,11 +1,11 @@
 -- The parts of an input: some records, a call, the index that a run begins with. Assumes nothing.
 use mathlib.Core.Path.{◌≡◌, refl, sym, ap, ◌∙◌}
-use Prim.Native.Nat.{ℕ, zero, suc, ◌+◌, ◌-◌, ◌*◌, ◌≤◌, ◌<◌, min}
+use Prim.Native.Nat.{ℕ, ◌+◌, ◌-◌, ◌*◌, ◌≤◌, ◌<◌, min}
 use native.Mathlib.Nat.{mul-le-mul_right, le-mul_of_pos_right}
 use native.Mathlib.Omega.{arith}
 use native.Mathlib.Decide.{dec_le}
-use mathlib.Core.List.{List, [], ◌∷◌, ◌++◌}
-use lib.ListN.{length, get_or, take, drop, replicate, length-append, length-take, length-drop, length-replicate, drop_of_length-le}
+use mathlib.Core.List.{List}
+use lib.ListN.{length, take, drop, length-take, length-drop, drop_of_length-le}
 use lib.Seq.{take_all}
 use Rattle.walk_inputs.specs.declared.Plan.{Plan}
 use Rattle.walk_inputs.specs.Plan.{plan_of, step_of, part_of}
@@ -53,24 +53,3 @@ module _ (input : List ℕ) (p : Plan) (s i : ℕ) (e : p ≡ plan_of input) (f 
   call_none h k =
       let z : min s (p.calls - i * s) ≡ 0 = omega (arith, le-mul_of_pos_right {m = s} i h) in
       ap (λ (n : ℕ). part_of input (p.place + i * s) n) (sym z) ∙ call-as
-
-zero-at : (k i : ℕ) → get_or (replicate {A = ℕ} k 0) i 0 ≡ 0
-zero-at zero i = refl
-zero-at (suc k) zero = refl
-zero-at (suc k) (suc i) = zero-at k i
-
--- zeros behind a run
-pub pad-at : (run : List ℕ) (k i : ℕ) → get_or (run ++ replicate {A = ℕ} k 0) i 0 ≡ get_or run i 0
-pad-at [] k i = zero-at k i
-pad-at (x ∷ run) k zero = refl
-pad-at (x ∷ run) k (suc i) = pad-at run k i
-
--- past the end
-pub none-at : (run : List ℕ) (i : ℕ) → length run ≤ i → 0 ≡ get_or run i 0
-none-at [] i h = refl
-none-at (x ∷ run) zero h = absurd (omega arith)
-none-at (x ∷ run) (suc i) h = none-at run i (omega arith)
-
--- a run with zeros behind it fills its buffer
-pub pad-length : (run : List ℕ) (n : ℕ) → length run ≤ n → length (run ++ replicate {A = ℕ} (n - length run) 0) ≡ n
-pad-length run n h = omega (arith, length-append run (replicate {A = ℕ} (n - length run) 0), length-replicate {A = ℕ} (n - length run) 0)

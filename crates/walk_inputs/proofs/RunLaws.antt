@@ -9,32 +9,31 @@ use Rattle.records.specs.declared.Rec.{Rec}
 use Rattle.records.specs.Records.{records_of, zero_rec}
 use Rattle.indexing_iter.specs.declared.Settings.{Settings}
 use Rattle.indexing_iter.specs.Classes.{class_of}
+use Rattle.indexing_iter.specs.declared.refusal.Refusal.{Refusal}
+use Rattle.std.specs.Prelude.{Result, Ok, Err}
 use Rattle.indexing.specs.Builder.{Built, build_call}
-use Rattle.indexing_builder.specs.declared.BuildAnswer.{BuildAnswer}
-use Rattle.indexing_builder.specs.declared.BuildAnswer.TheVariants.{Done, Refused}
+use Rattle.indexing_builder.specs.declared.Built.{Built as Done}
 use Rattle.indexing_builder.specs.Answer.{built_of}
 use Rattle.indexing_scan.specs.Calls.{walk_call}
-use Rattle.indexing_walk.specs.declared.WalkAnswer.{WalkAnswer}
-use Rattle.indexing_walk.specs.declared.WalkAnswer.TheVariants.{Refused as NotWalked, Answered}
+use Rattle.indexing_walk.specs.declared.Ended.{Ended}
 use Rattle.indexing_walk.specs.Answers.{walked_of}
 use Rattle.inputs.specs.Input.{settings_from, starts_in}
 use Rattle.inputs.proofs.LinesLaws.{code-part, settings-as, chosen-as}
 use Rattle.walk_inputs.specs.declared.Plan.{Plan}
-use Rattle.walk_inputs.specs.declared.First.{First}
-use Rattle.walk_inputs.specs.declared.First.TheVariants.{Refused as NotBuilt, Built as WasBuilt, Given}
+use Rattle.walk_inputs.specs.declared.Begun.{Begun}
+use Rattle.walk_inputs.specs.declared.Begun.TheVariants.{Built as WasBuilt, Given}
 use Rattle.walk_inputs.specs.Plan.{starts_of, plan_of, part_of, step_of}
-use Rattle.walk_inputs.specs.Run.{code_of, calls_of, call_part, start_index, opened_built, build_of, open_of, opened_of, first_built, opened_in, walk_of, walked_in, walk_in}
+use Rattle.walk_inputs.specs.Run.{code_of, calls_of, call_part, start_index, opened_built, build_of, open_of, opened_of, opened_in, walk_of, walked_in, walk_in}
 
-module _ (input : List ℕ) (p : Plan) (r : Rec) (S : Settings) (at : ℕ) (code starts : List ℕ) (e : p ≡ plan_of input)
-    (f : r ≡ get_or (records_of input) 0 zero_rec) (g : S ≡ settings_from (eqb r.kind 240) r)
-    (a : at ≡ min (16 * (p.place + p.calls + p.index)) (length input)) (k : code ≡ take (length input - at) (drop at input))
-    (s : starts ≡ starts_in (drop 1 (records_of input))) where
-  code-as : code ≡ code_of input
-  unfolding code_of
-  code-as =
-      k ∙ code-part input (16 * (p.place + p.calls + p.index)) at a
-      ∙ ap (λ (q : Plan). drop (16 * (q.place + q.calls + q.index)) input) e
+-- the code, from the place where it begins
+pub code-as : (input : List ℕ) (p : Plan) (at : ℕ) → p ≡ plan_of input → at ≡ min (16 * (p.place + p.calls + p.index)) (length input)
+    → take (length input - at) (drop at input) ≡ code_of input
+unfolding code_of
+code-as input p at e a =
+    code-part input (16 * (p.place + p.calls + p.index)) at a ∙ ap (λ (q : Plan). drop (16 * (q.place + q.calls + q.index)) input) e
 
+module _ (input : List ℕ) (r : Rec) (S : Settings) (code starts : List ℕ) (f : r ≡ get_or (records_of input) 0 zero_rec)
+    (g : S ≡ settings_from (eqb r.kind 240) r) (k : code ≡ code_of input) (s : starts ≡ starts_in (drop 1 (records_of input))) where
   starts-as : starts ≡ starts_of input
   unfolding starts_of
   starts-as = s
@@ -42,13 +41,13 @@ module _ (input : List ℕ) (p : Plan) (r : Rec) (S : Settings) (at : ℕ) (code
   -- the builder's call
   pub build-as : (index : List ℕ) → build_call class_of code starts S r.long index ≡ build_of input index
   unfolding build_of
-  build-as index = rw (code-as, starts-as, settings-as input r f S g, chosen-as input r f) refl
+  build-as index = rw (k, starts-as, settings-as input r f S g, chosen-as input r f) refl
 
   -- the walk of a call
   pub walk-as : (i : ℕ) (call index : List ℕ) (count : ℕ) (out : List ℕ) → call ≡ call_part input i
       → walk_call class_of code starts S call index count out ≡ walk_of input i index count out
   unfolding walk_of
-  walk-as i call index count out q = rw (code-as, starts-as, settings-as input r f S g, q) refl
+  walk-as i call index count out q = rw (k, starts-as, settings-as input r f S g, q) refl
 
 -- the number of calls
 pub calls-as : (input h : List ℕ) (p : Plan) (s : ℕ) → h ≡ input → p ≡ plan_of h → s ≡ step_of h → (p.calls + (s - 1)) / s ≡ calls_of input
@@ -64,32 +63,35 @@ module _ (input : List ℕ) (p : Plan) (e : p ≡ plan_of input) where
 
   module _ (out : List ℕ) (o : out ≡ replicate p.out 0) where
     -- an index is handed in
-    pub open-given : (index : List ℕ) → p.handed ≡ true → index ≡ start_index input → opened_of (Given p.count) index out ≡ open_of input
+    pub open-given : (index : List ℕ) → p.handed ≡ true → index ≡ start_index input → opened_of (Ok (Given p.count)) index out ≡ open_of input
     unfolding open_of
     open-given index h x = rw (← e, h, x, o) refl
 
     -- an index is built
-    pub open-built : (b : BuildAnswer) (x z : List ℕ) → p.handed ≡ false → z ≡ start_index input → built_of b x ≡ build_of input z
-        → opened_of (first_built b) x out ≡ open_of input
+    open-by : (b : Built) (z : List ℕ) → p.handed ≡ false → z ≡ start_index input → b ≡ build_of input z → opened_built b out ≡ open_of input
     unfolding open_of
-    open-built b x z h y q =
-        go b ∙ ap (λ (t : Built). opened_built t out) (q ∙ ap (λ (l : List ℕ). build_of input l) y) ∙ rw (← e, h, o) refl
-      where
-        go : (b : BuildAnswer) → opened_of (first_built b) x out ≡ opened_built (built_of b x) out
-        go (Done c v) = refl
-        go (Refused n) = refl
+    open-by b z h y q = rw (q, y) (rw (← e, h, o) refl)
+
+    pub open-built : (d : Done) (x z : List ℕ) → p.handed ≡ false → z ≡ start_index input → built_of (Ok d) x ≡ build_of input z
+        → opened_of (Ok (WasBuilt d)) x out ≡ open_of input
+    open-built d x z h y q = open-by (built_of (Ok d) x) z h y q
+
+    -- or the builder refuses
+    pub open-refused : (r : Refusal) (x z : List ℕ) → p.handed ≡ false → z ≡ start_index input → built_of (Err r) x ≡ build_of input z
+        → opened_of (Err r) x out ≡ open_of input
+    open-refused r x z h y q = open-by (built_of (Err r) x) z h y q
 
 -- index and out in the front of larger buffers
-pub opened-front : (a : First) (p : Plan) (x y index out : List ℕ)
+pub opened-front : (a : Result Begun Refusal) (p : Plan) (x y index out : List ℕ)
     → opened_of a (x ++ drop (16 * p.capacity) index) (y ++ drop p.out out) ≡ opened_in p index out (opened_of a x y)
-opened-front (NotBuilt n) p x y index out = refl
-opened-front (WasBuilt c v) p x y index out = refl
-opened-front (Given c) p x y index out = refl
+opened-front (Err n) p x y index out = refl
+opened-front (Ok (WasBuilt b)) p x y index out = refl
+opened-front (Ok (Given c)) p x y index out = refl
 
-pub walked-front : (a : WalkAnswer) (p : Plan) (x y index out : List ℕ)
+pub walked-front : (a : Result Ended Refusal) (p : Plan) (x y index out : List ℕ)
     → walked_of a (x ++ drop (16 * p.capacity) index) (y ++ drop p.out out) ≡ walked_in p index out (walked_of a x y)
-walked-front (NotWalked n) p x y index out = refl
-walked-front (Answered e) p x y index out = refl
+walked-front (Err n) p x y index out = refl
+walked-front (Ok e) p x y index out = refl
 
 pub walk-in-as : (input : List ℕ) (p : Plan) (i : ℕ) (index : List ℕ) (count : ℕ) (out : List ℕ) → p ≡ plan_of input
     → walked_in p index out (walk_of input i (take (16 * p.capacity) index) count (take p.out out)) ≡ walk_in input i index count out

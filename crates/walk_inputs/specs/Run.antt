@@ -1,18 +1,17 @@
 -- The run of the program walks: the index and out before the first call, and each call's walk, on the parts of an input.
 -- Assumes nothing.
-use Rattle.std.specs.Prelude.{◌≡◌, ℕ, ◌+◌, ◌-◌, ◌*◌, ◌/◌, min, Bool, true, false, cond, List, ◌++◌, length, take, drop, replicate}
+use Rattle.std.specs.Prelude.{◌≡◌, ℕ, ◌+◌, ◌-◌, ◌*◌, ◌/◌, min, Bool, true, false, cond, List, ◌++◌, length, take, drop, replicate, Result, Ok, Err}
 use Rattle.indexing_iter.specs.Classes.{class_of}
+use Rattle.indexing_iter.specs.declared.refusal.Refusal.{Refusal}
+use Rattle.indexing_iter.specs.Refusals.{refusal_number}
 use Rattle.indexing.specs.Builder.{Built, build_call}
-use Rattle.indexing_builder.specs.declared.BuildAnswer.{BuildAnswer}
-use Rattle.indexing_builder.specs.declared.BuildAnswer.TheVariants.{Done, Refused}
 use Rattle.indexing_scan.specs.Calls.{Walked, walk_call}
-use Rattle.indexing_walk.specs.declared.WalkAnswer.{WalkAnswer}
-use Rattle.indexing_walk.specs.declared.WalkAnswer.TheVariants.{Refused as NotWalked, Answered}
+use Rattle.indexing_walk.specs.declared.Ended.{Ended}
 use Rattle.indexing_walk.specs.Answers.{walked_of}
 use Rattle.inputs.specs.Input.{settings_of, chosen_of}
 use Rattle.walk_inputs.specs.declared.Plan.{Plan}
-use Rattle.walk_inputs.specs.declared.First.{First}
-use Rattle.walk_inputs.specs.declared.First.TheVariants.{Refused as NotBuilt, Built as WasBuilt, Given}
+use Rattle.walk_inputs.specs.declared.Begun.{Begun}
+use Rattle.walk_inputs.specs.declared.Begun.TheVariants.{Built as WasBuilt, Given}
 use Rattle.walk_inputs.specs.Plan.{heard_of, starts_of, plan_of, part_of, step_of}
 
 -- code to the end, a part record included
@@ -63,14 +62,10 @@ open_of input =
     (opened_built (build_of input (start_index input)) out)
 
 -- the answer with the buffers at the end
-abbrev pub opened_of : First → List ℕ → List ℕ → Opened
-opened_of (NotBuilt n) index out = record { number = n; handed = false; count = 0; variable = 0; index = index; out = out }
-opened_of (WasBuilt c v) index out = record { number = 0; handed = false; count = c; variable = v; index = index; out = out }
-opened_of (Given c) index out = record { number = 0; handed = true; count = c; variable = 0; index = index; out = out }
-
-abbrev pub first_built : BuildAnswer → First
-first_built (Done c v) = WasBuilt c v
-first_built (Refused n) = NotBuilt n
+abbrev pub opened_of : Result Begun Refusal → List ℕ → List ℕ → Opened
+opened_of (Err e) index out = record { number = refusal_number e; handed = false; count = 0; variable = 0; index = index; out = out }
+opened_of (Ok (WasBuilt b)) index out = record { number = 0; handed = false; count = b.count; variable = b.variable; index = index; out = out }
+opened_of (Ok (Given c)) index out = record { number = 0; handed = true; count = c; variable = 0; index = index; out = out }
 
 -- the walk of call number i with an index, its record count and out
 unfoldable pub walk_of : List ℕ → ℕ → List ℕ → ℕ → List ℕ → Walked
@@ -113,9 +108,9 @@ walk_in input i index count out =
     walked_in p index out (walk_of input i (take (16 * p.capacity) index) count (take p.out out))
 
 -- the record count handed to the next call: an accepted walk's new one; after a refusal the earlier count still holds
-abbrev pub next_count : WalkAnswer → ℕ → ℕ
-next_count (NotWalked n) count = count
-next_count (Answered e) count = e.records
+abbrev pub next_count : Result Ended Refusal → ℕ → ℕ
+next_count (Err e) count = count
+next_count (Ok e) count = e.records
 
 -- what a call is handed: the index buffer, its record count and out
 pub record Held : Type 0 where
@@ -129,6 +124,6 @@ held index count out = record { index = index; count = count; out = out }
 -- what is handed on after i calls: each call gets what the one before it left
 pub data Handed (input : List ℕ) (first : Held) : ℕ → Held → Type 0 where
   at_first : Handed input first 0 first
-  onward : {i : ℕ} {s : Held} (a : WalkAnswer) (index out : List ℕ) → Handed input first i s
+  onward : {i : ℕ} {s : Held} (a : Result Ended Refusal) (index out : List ℕ) → Handed input first i s
       → walked_of a index out ≡ walk_in input i s.index s.count s.out
       → Handed input first (i + 1) (held index (next_count a s.count) out)

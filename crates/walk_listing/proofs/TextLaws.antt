@@ -1,28 +1,14 @@
 -- The text of an answer, put before a place from its last byte back. Assumes nothing.
 use mathlib.Core.Path.{◌≡◌, refl, sym, ap, ◌∙◌}
-use Prim.Native.Nat.{ℕ, suc, ◌+◌, ◌-◌, ◌≤◌, ◌<◌}
+use Prim.Native.Nat.{ℕ, ◌+◌, ◌≤◌, ◌<◌}
 use native.Mathlib.Numerals.{add-one}
 use native.Mathlib.Omega.{arith}
 use mathlib.Core.List.{List, [], ◌∷◌, ◌++◌}
-use lib.ListN.{length, get_or, drop, set}
-use lib.Seq.{slice, slice_empty, slice-cons, drop-cons}
+use lib.ListN.{length, get_or}
+use lib.Seq.{slice, slice_empty, slice-cons, take_all}
 use Rattle.listing.specs.Text.{decimal}
-use Rattle.listing.proofs.TextLaws.{put-before}
 use Rattle.indexing_walk.specs.declared.Ended.{Ended}
 use Rattle.walk_listing.specs.Text.{case_word, mark_word, ended_text, offsets_text}
-
--- nothing of a word yet
-pub word_none : (word rest : List ℕ) → rest ≡ drop (length word) word ++ rest
-word_none [] rest = refl
-word_none (x ∷ xs) rest = word_none xs rest
-
--- one more byte of a word
-pub word_more : (text word rest : List ℕ) (at i : ℕ) → 1 ≤ at → at ≤ length text → 1 ≤ i → i ≤ length word → drop at text ≡ drop i word ++ rest
-    → drop (at - 1) (set text (at - 1) (get_or word (i - 1) 0)) ≡ drop (i - 1) word ++ rest
-word_more text word rest at i a b c d h =
-    let e : suc (i - 1) ≡ i = omega arith in
-    put-before text at (get_or word (i - 1) 0) a b ∙ ap (λ (x : List ℕ). get_or word (i - 1) 0 ∷ x) h
-    ∙ ap (λ (x : List ℕ). x ++ rest) (sym (drop-cons word (i - 1) 0 (omega arith) ∙ ap (λ (k : ℕ). get_or word (i - 1) 0 ∷ drop k word) e))
 
 -- an answer, part by part from the last
 pub ended-parts : (e : Ended) (a b c d f g text : List ℕ) → a ≡ decimal e.records text → b ≡ mark_word e.whole ++ a → c ≡ decimal e.tables (32 ∷ b)
@@ -42,3 +28,7 @@ offsets-more os i to before after h k p q =
 pub offsets-none : (os : List ℕ) (to : ℕ) → offsets_text (slice to to os) [] ≡ []
 unfolding offsets_text
 offsets-none os to = rw (slice_empty to os) refl
+
+-- all of them
+pub offsets-all : (os : List ℕ) → slice 0 (length os) os ≡ os
+offsets-all os = take_all (length os) os (omega arith)

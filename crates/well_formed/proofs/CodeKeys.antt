@@ -9,7 +9,7 @@ use Rattle.records.specs.declared.Rec.{Rec}
 use Rattle.records.specs.Records.{records_of}
 use Rattle.indexing_iter.specs.declared.OptArgIndexKey.{OptArgIndexKey as Key}
 use Rattle.indexing_iter.specs.declared.OptArgIndexKey.TheVariants.{None, Literal, Structure, List as ListKey}
-use Rattle.indexing_iter.specs.declared.Checked.TheVariants.{Passed}
+use Rattle.indexing_iter.specs.Refusals.{passed}
 use Rattle.indexing_iter.specs.Checks.{check_code}
 use Rattle.indexing_iter.specs.Clauses.{known, key_of, clause_at}
 use Rattle.indexing_iter.specs.Keys.{is_open, key_in}
@@ -35,7 +35,7 @@ unfolding key_of key_in
 no_key cls rs starts o a k = rw (no-clause rs starts o k)
 
 -- a bound key of checked code passes the test of a switch's keys
-pub code-keys : (cls : ℕ → ℕ) (arity : ℕ) (code starts : List ℕ) (o a : ℕ) → check_code cls arity code starts ≡ Passed
+pub code-keys : (cls : ℕ → ℕ) (arity : ℕ) (code starts : List ℕ) (o a : ℕ) → check_code cls arity code starts ≡ passed
     → is_open (key_of cls (records_of code) starts o a) ≡ false → key_ok (key_of cls (records_of code) starts o a) ≡ true
 code-keys cls arity code starts o a p e = go (known starts o) refl
   where

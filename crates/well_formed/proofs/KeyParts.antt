@@ -6,12 +6,13 @@ use mathlib.Core.List.{List, [], ◌∷◌, map}
 use Prim.Native.Nat.{ℕ, ◌+◌, ◌≤◌, ◌<◌}
 use borrow.Author.Tests.{eq-eqb, eqb-true}
 use lib.Dec.{eqb}
-use lib.ListN.{length, get_or, take}
-use lib.Seq.{slice}
+use native.Mathlib.Numerals.{add-one}
+use native.Mathlib.Omega.{arith}
+use lib.ListN.{length, get_or, take, drop, drop_of_length-le}
+use lib.Seq.{drop-cons}
 use Rattle.records.specs.declared.Rec.{Rec}
 use Rattle.records.specs.Records.{zero_rec}
 use Rattle.indexing_iter.specs.Keys.{same}
-use Rattle.indexing_iter.proofs.Parts.{slice-step, slice-done}
 use Rattle.indexing.specs.Lines.{Ptr, Entry}
 use Rattle.indexing.specs.Lists.{any_of}
 use Rattle.indexing.specs.Reading.{entry_from}
@@ -20,23 +21,27 @@ use Rattle.well_formed.specs.Pass.{group_by_sort, form_ok, same_fields, among, d
 use Rattle.well_formed.proofs.PassParts.{group-sort, form-key}
 use Rattle.well_formed.proofs.Turns.{Forms, Behind}
 
-pub among-step : (r : Rec) (rs : List Rec) (i end : ℕ) → i < end → end ≤ length rs
-    → among r (slice i end rs) ≡ (same_fields r (get_or rs i zero_rec) || among r (slice (i + 1) end rs))
+-- one entry more in front
+pub drop_back : (rs : List Rec) (i j : ℕ) → j + 1 ≡ i → i ≤ length rs → drop j rs ≡ get_or rs j zero_rec ∷ drop i rs
+drop_back rs i j e h = rw (add-one j) (drop-cons rs j zero_rec (omega arith)) ∙ ap (λ (n : ℕ). get_or rs j zero_rec ∷ drop n rs) e
+
+pub among-step : (r : Rec) (rs : List Rec) (i : ℕ) → i < length rs
+    → among r (drop i rs) ≡ (same_fields r (get_or rs i zero_rec) || among r (drop (i + 1) rs))
 unfolding among
-among-step r rs i end h k = rw (slice-step rs i end h k) refl
+among-step r rs i h = rw (drop_back rs (i + 1) i refl (omega arith)) refl
 
-pub among_none : (r : Rec) (rs : List Rec) (i end : ℕ) → end ≤ i → among r (slice i end rs) ≡ false
+pub among_none : (r : Rec) (rs : List Rec) (i : ℕ) → length rs ≤ i → among r (drop i rs) ≡ false
 unfolding among
-among_none r rs i end h = rw (slice-done rs i end h) refl
+among_none r rs i h = rw (drop_of_length-le rs h) refl
 
-pub distinct-step : (r : Rec) (rs : List Rec) (i end : ℕ) → i < end → end ≤ length rs → r ≡ get_or rs i zero_rec
-    → distinct_keys (slice i end rs) ≡ (not (among r (slice (i + 1) end rs)) && distinct_keys (slice (i + 1) end rs))
+pub distinct-step : (r : Rec) (rs : List Rec) (i : ℕ) → i < length rs → r ≡ get_or rs i zero_rec
+    → distinct_keys (drop i rs) ≡ (not (among r (drop (i + 1) rs)) && distinct_keys (drop (i + 1) rs))
 unfolding distinct_keys
-distinct-step r rs i end h k e = rw (slice-step rs i end h k, e) refl
+distinct-step r rs i h e = rw (drop_back rs (i + 1) i refl (omega arith), e) refl
 
-pub distinct_none : (rs : List Rec) (i end : ℕ) → end ≤ i → distinct_keys (slice i end rs) ≡ true
+pub distinct_none : (rs : List Rec) (i : ℕ) → length rs ≤ i → distinct_keys (drop i rs) ≡ true
 unfolding distinct_keys
-distinct_none rs i end h = rw (slice-done rs i end h) refl
+distinct_none rs i h = rw (drop_of_length-le rs h) refl
 
 -- ---- keys that are told by their fields
 

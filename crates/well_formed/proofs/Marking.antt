@@ -2,20 +2,21 @@
 -- Assumes nothing.
 use mathlib.Core.Path.{◌≡◌, refl, sym, ◌∙◌, ap}
 use mathlib.Core.Bool.{Bool, true, false, cond, ◌||◌}
-use mathlib.Core.List.{List, [], ◌∷◌}
+use mathlib.Core.List.{List, [], ◌∷◌, ◌++◌}
 use Prim.Native.Nat.{ℕ, zero, suc, ◌+◌, ◌≤◌, ◌<◌}
 use native.Mathlib.Numerals.{add-one}
 use native.Mathlib.Nat.{add-zero}
 use native.Mathlib.Omega.{arith}
 use borrow.Author.Tests.{eqb-true, eqb-false, ltb-true, lt-ltb}
 use lib.Dec.{eqb, ltb}
-use lib.ListN.{length, get_or, drop, set, replicate, drop_of_length-le}
+use lib.ListN.{length, get_or, take, set, replicate}
+use Rattle.std.proofs.lemmas.List.{take_more}
 use lib.Seq.{slice, get_or-set_same, get_or-set_other}
 use Rattle.records.specs.declared.Rec.{Rec}
 use Rattle.records.specs.Records.{zero_rec}
 use Rattle.indexing_iter.specs.Checks.{rising_below}
 use Rattle.indexing_iter.specs.Clauses.{known}
-use Rattle.indexing_iter.proofs.CheckLaws.{drop-step, start-known, known-range}
+use Rattle.indexing_iter.proofs.CheckLaws.{start-known, known-range}
 use Rattle.indexing.proofs.Tests.{and-true, both}
 use Rattle.indexing.specs.Lines.{Line, Index}
 use Rattle.indexing.specs.Reading.{Waiting, read_all, parse}
@@ -46,25 +47,44 @@ get_or-zeros zero o = refl
 get_or-zeros (suc n) zero = refl
 get_or-zeros (suc n) (suc o) = get_or-zeros n o
 
-pub marks-none : (marks : List ℕ) (i : ℕ) (starts : List ℕ) → Cleared marks → length starts ≤ i → Marks marks (drop i starts)
-unfolding marked known
-marks-none marks i starts c h o =
-    let f : drop i starts ≡ [] = drop_of_length-le starts h in
-    rw (f, c o)
-
-pub marks-more : (marks starts : List ℕ) (i j : ℕ) → j + 1 ≡ i → i ≤ length starts → get_or starts j 0 + 1 < length marks → Marks marks (drop i starts)
-    → Marks (set marks (get_or starts j 0 + 1) 1) (drop j starts)
-unfolding marked known
-marks-more marks starts i j next low h m o =
-    let n : ℕ = get_or starts j 0 in
-    let f : drop j starts ≡ n ∷ drop i starts = drop-step starts j (omega arith) ∙ ap (λ (k : ℕ). n ∷ drop k starts) next in
-    rw (f, add-one n) (go n (omega arith) (eqb (suc n) o) refl)
+-- one offset more at the end
+known_push : (starts : List ℕ) (s o : ℕ) → known (starts ++ s ∷ []) o ≡ known starts o || eqb (suc s) o
+unfolding known
+known_push [] s o = or_none (eqb (suc s) o)
   where
-    go : (n : ℕ) → suc n < length marks → (b : Bool) → eqb (suc n) o ≡ b → eqb (get_or (set marks (suc n) 1) o 0) 1 ≡ b || known (drop i starts) o
+    or_none : (b : Bool) → b || false ≡ b
+    or_none true = refl
+    or_none false = refl
+known_push (t ∷ ts) s o = ap (λ (b : Bool). eqb (suc t) o || b) (known_push ts s o) ∙ or_assoc (eqb (suc t) o) (known ts o) (eqb (suc s) o)
+  where
+    or_assoc : (a b c : Bool) → a || (b || c) ≡ (a || b) || c
+    or_assoc true b c = refl
+    or_assoc false b c = refl
+
+pub marks-none : (marks : List ℕ) → Cleared marks → Marks marks []
+unfolding marked known
+marks-none marks c o = rw (c o)
+
+pub marks-more : (marks starts : List ℕ) (i : ℕ) → i < length starts → get_or starts i 0 + 1 < length marks → Marks marks (take i starts)
+    → Marks (set marks (get_or starts i 0 + 1) 1) (take (i + 1) starts)
+unfolding marked
+marks-more marks starts i l h m o =
+    let n : ℕ = get_or starts i 0 in
+    rw (take_more starts i 0 l, known_push (take i starts) n o, add-one n) (go n (omega arith) (eqb (suc n) o) refl)
+  where
+    last : (b : Bool) → true ≡ b || true
+    last true = refl
+    last false = refl
+
+    same : (b : Bool) → b ≡ b || false
+    same true = refl
+    same false = refl
+
+    go : (n : ℕ) → suc n < length marks → (b : Bool) → eqb (suc n) o ≡ b → marked (set marks (suc n) 1) o ≡ known (take i starts) o || b
     go n h true e =
         let q : suc n ≡ o = eqb-true (suc n) o e in
-        rw (← q, get_or-set_same marks (suc n) 1 0 h)
-    go n h false e = rw (get_or-set_other marks (suc n) o 1 0 (λ q. eqb-false (suc n) o e (sym q))) (m o)
+        rw (← q, get_or-set_same marks (suc n) 1 0 h) (last (known (take i starts) (suc n)))
+    go n h false e = rw (get_or-set_other marks (suc n) o 1 0 (λ q. eqb-false (suc n) o e (sym q))) (m o ∙ same (known (take i starts) o))
 
 pub start-below : (n : ℕ) (starts : List ℕ) (j : ℕ) → rising_below n starts ≡ true → j < length starts → get_or starts j 0 < n
 start-below n starts j e h = omega (arith, known-range n starts (suc (get_or starts j 0)) e (start-known starts j h))

@@ -164,30 +164,27 @@ module _ (arity : ℕ) (dynamic : Bool) (known : ℕ → Bool) (total : ℕ) whe
     switch-keys : slice i (i + s.entries) R ≡ take s.entries (slice i count R)
     switch-keys = slice_front i s.entries count R (omega (arith, h.held))
 
-    refused : step_ok arity dynamic known total r.kind r s && cond (eqb r.kind 2) (distinct_keys (take s.entries (slice i count R))) true ≡ false
-        → checked arity dynamic known total (take count R) ≡ false
+    -- the tests of a record of kind k and of its keys
+    abbrev pub Tests : ℕ → Bool
+    Tests k = step_ok arity dynamic known total k r s && cond (eqb k 2) (distinct_keys (slice i (i + s.entries) R)) true
+
+    pub refused : (k : ℕ) → r.kind ≡ k → Tests k ≡ false → checked arity dynamic known total (take count R) ≡ false
     unfolding checked
-    refused e =
+    refused k e t =
+        let u : Tests r.kind ≡ false = ap Tests e ∙ t in
         let f : pass arity dynamic known total nothing (slice (i - 1) count R) ≡ false =
-        ap (pass arity dynamic known total nothing) front ∙ met-pass h.met r ∙ e in
+        ap (pass arity dynamic known total nothing) front ∙ met-pass h.met r ∙ rw switch-keys at u in
         rw (all-fail (take count R) (i - 1) f)
 
-    pub step-refused : step_ok arity dynamic known total r.kind r s ≡ false → checked arity dynamic known total (take count R) ≡ false
-    step-refused e = refused (rw e)
-
-    pub keys-refused : cond (eqb r.kind 2) (distinct_keys (slice i (i + s.entries) R)) true ≡ false
-        → checked arity dynamic known total (take count R) ≡ false
-    keys-refused e = refused (and_right (step_ok arity dynamic known total r.kind r s) (rw switch-keys at e))
-      where
-        and_right : (x : Bool) {y : Bool} → y ≡ false → x && y ≡ false
-        and_right true f = f
-        and_right false f = refl
-
-    pub met-turn : (s' : Waits) (firsts' : List ℕ) → s.lines < length firsts → step_ok arity dynamic known total r.kind r s ≡ true
-        → cond (eqb r.kind 2) (distinct_keys (slice i (i + s.entries) R)) true ≡ true
-        → s' ≡ after r.kind r s (reach_in dynamic known firsts s.lines (pointer_from r.word))
-        → firsts' ≡ noted r.kind s.lines s.first firsts → Met (slice (i - 1) count R) s' firsts'
-    met-turn s' firsts' l t k f g = met-more h.met r (slice (i - 1) count R) s' firsts' front l t (rw switch-keys at k) f g
+    pub met-turn : (k : ℕ) → r.kind ≡ k → (s' : Waits) (firsts' : List ℕ) → s.lines < length firsts → Tests k ≡ true
+        → s' ≡ after k r s (reach_in dynamic known firsts s.lines (pointer_from r.word))
+        → firsts' ≡ noted k s.lines s.first firsts → Met (slice (i - 1) count R) s' firsts'
+    met-turn k e s' firsts' l t f g =
+        let x = and-true (step_ok arity dynamic known total r.kind r s) (cond (eqb r.kind 2) (distinct_keys (slice i (i + s.entries) R)) true)
+        (ap Tests e ∙ t) in
+        met-more h.met r (slice (i - 1) count R) s' firsts' front l x.0 (rw switch-keys at x.1)
+        (f ∙ ap (λ (n : ℕ). after n r s (reach_in dynamic known firsts s.lines (pointer_from r.word))) (sym e))
+        (g ∙ ap (λ (n : ℕ). noted n s.lines s.first firsts) (sym e))
 
   pub met-within : (R : List Rec) (count i : ℕ) (s : Waits) (firsts : List ℕ) → count ≤ length R → i ≤ count → Met (slice i count R) s firsts
       → (s.lines + i ≤ count) × (s.entries + i ≤ count)

@@ -22,10 +22,10 @@ use Rattle.indexing.specs.Lines.{tables_recs, choice_rec, mode_of, line_rec, rec
 use Rattle.indexing.specs.Lists.{any_of, every}
 use Rattle.indexing.specs.Reading.{Waiting, waiting, read_all}
 use Rattle.well_formed.specs.WellFormed.{rising_ok, args_ok, key_ok, keys_ok, entry_keys, tag_ok, some_ok}
-use Rattle.well_formed.specs.Pass.{first_arg, first_of, first_group, least, waits, group_by_sort, form_ok, tag_in, idle, bare, line_step, table_step, switch_step}
+use Rattle.well_formed.specs.Pass.{first_arg, first_of, first_group, group_bound, least, waits, group_by_sort, form_ok, tag_in, idle, bare, line_step, table_step, switch_step}
 use Rattle.well_formed.specs.Pass.{demand_step, dead_step, entry_step, choice_step, clause_step, step_ok, keys_once, nothing, pass}
 use Rattle.well_formed.proofs.Fine.{args-first, FineTable, Fine}
-use Rattle.well_formed.proofs.PassParts.{and3, front-rises, keys-once}
+use Rattle.well_formed.proofs.PassParts.{and3, front-rises, key-bound, keys-once}
 
 key-form : (k : Key) → key_ok k ≡ true → (form_ok (sort_of k) (arity_of k) (bits_of k) ≡ true) × (group_by_sort (sort_of k) ≡ group_of k)
 unfolding form_ok
@@ -47,12 +47,14 @@ group-top (Literal s b) = omega arith
 group-top (Structure n f) = omega arith
 group-top ListKey = omega arith
 
-group-first : (k : Key) (es : List (Entry Ptr)) → keys_ok (group_of k) (entry_keys es) ≡ true → group_of k ≤ first_group es
+group-first : (k : Key) (es : List (Entry Ptr)) → keys_ok (group_of k) (entry_keys es) ≡ true → group_of k ≤ group_bound (first_group es)
 group-first k [] e = group-top k
 group-first k (x ∷ es) e =
     let ks : List Key = entry_keys es in
     let l : Key = x.key in
-    le_of (group_of k) (group_of l) (and-true (leb (group_of k) (group_of l)) (key_ok l && (not (any_of (same l) ks) && keys_ok (group_of l) ks)) e).0
+    let y = and-true (leb (group_of k) (group_of l)) (key_ok l && (not (any_of (same l) ks) && keys_ok (group_of l) ks)) e in
+    let z = and-true (key_ok l) (not (any_of (same l) ks) && keys_ok (group_of l) ks) y.1 in
+    omega (arith, le_of (group_of k) (group_of l) y.0, key-bound l z.0)
 
 module _ (arity : ℕ) (dynamic : Bool) (known : ℕ → Bool) (total : ℕ) where
   pass-append : (w : Waiting) (xs ys : List Rec) → pass arity dynamic known total (read_all ys w) xs ≡ true → pass arity dynamic known total w ys ≡ true
@@ -108,9 +110,9 @@ module _ (arity : ℕ) (dynamic : Bool) (known : ℕ → Bool) (total : ℕ) whe
         let y = and-true (leb g (group_of k)) (key_ok k && (not (any_of (same k) ks) && keys_ok (group_of k) ks)) e in
         let z = and3 (key_ok k) (not (any_of (same k) ks)) (keys_ok (group_of k) ks) y.1 in
         let u = key-form k z.0 in
-        let h : group_by_sort (sort_of k) ≤ first_group es = omega (arith, u.1, group-first k es z.2) in
+        let h : group_by_sort (sort_of k) ≤ group_bound (first_group es) = omega (arith, u.1, group-first k es z.2) in
         pass-front (from ts cs ls) (waiting es [] ts cs ls) (entry_rec x) (map entry_rec es) (entries-are es f.1)
-        (both u.0 (le-true (group_by_sort (sort_of k)) (first_group es) h)) refl (entries-pass (group_of k) es z.2 f.1)
+        (both u.0 (le-true (group_by_sort (sort_of k)) (group_bound (first_group es)) h)) refl (entries-pass (group_of k) es z.2 f.1)
 
     module _ (small : arity ≤ 32) where
       -- the tests of a table's argument

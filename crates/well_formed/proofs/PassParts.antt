@@ -18,7 +18,7 @@ use Rattle.indexing.specs.Lines.{Ptr, ext, int, Entry, Table, arg_of, word, entr
 use Rattle.indexing.specs.Lists.{any_of}
 use Rattle.indexing.specs.Reading.{key_from, pointer_from, entry_from}
 use Rattle.well_formed.specs.WellFormed.{rising_ok, args_ok, key_ok, keys_ok, entry_keys}
-use Rattle.well_formed.specs.Pass.{first_arg, first_of, first_group, group_by_sort, form_ok, idle, bare, rises, once}
+use Rattle.well_formed.specs.Pass.{first_arg, first_of, first_group, group_in, group_bound, group_by_sort, form_ok, idle, bare, rises, once}
 use Rattle.well_formed.specs.declared.Waits.{Waits}
 
 -- ---- tests joined
@@ -156,11 +156,19 @@ keys-once g (k ∷ ks) e =
     let y = and3 (key_ok k) (not (any_of (same k) ks)) (keys_ok (group_of k) ks) x.1 in
     both y.1 (keys-once (group_of k) ks y.2)
 
-pub groups-front : (g : ℕ) (es : List (Entry Ptr)) → groups_ok 1 (entry_keys es) ≡ true → g ≤ first_group es → groups_ok g (entry_keys es) ≡ true
+-- a key's group as a bound
+pub key-bound : (k : Key) → key_ok k ≡ true → group_bound (group_in (group_of k)) ≡ group_of k
+key-bound None e = bool-absurd e refl
+key-bound (Literal s b) e = refl
+key-bound (Structure n f) e = refl
+key-bound ListKey e = refl
+
+pub groups-front : (g : ℕ) (es : List (Entry Ptr)) → groups_ok 1 (entry_keys es) ≡ true → g ≤ group_bound (first_group es) → groups_ok g (entry_keys es) ≡ true
 groups-front g [] e h = refl
 groups-front g (x ∷ es) e h =
     let y = and-true (leb 1 (group_of x.key)) (key_ok x.key && groups_ok (group_of x.key) (entry_keys es)) e in
-    both (le-true g (group_of x.key) h) y.1
+    let k = and-true (key_ok x.key) (groups_ok (group_of x.key) (entry_keys es)) y.1 in
+    both (le-true g (group_of x.key) (omega (arith, h, key-bound x.key k.0))) y.1
 
 pub key-group : (k : Key) → key_ok k ≡ true → 1 ≤ group_of k
 key-group None e = bool-absurd e refl

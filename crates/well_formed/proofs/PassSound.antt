@@ -18,7 +18,7 @@ use Rattle.indexing.specs.Lines.{mode_of, records}
 use Rattle.indexing.specs.Lists.{every}
 use Rattle.indexing.specs.Reading.{key_from, entry_from, Waiting, waiting, read, read_all}
 use Rattle.well_formed.specs.WellFormed.{rising_ok, args_ok, entry_keys, tag_ok, some_ok}
-use Rattle.well_formed.specs.Pass.{first_arg, first_of, first_group, least, waits, group_by_sort, form_ok, rises, tag_in, idle, bare, line_step, table_step, switch_step}
+use Rattle.well_formed.specs.Pass.{first_arg, first_of, first_group, group_bound, least, waits, group_by_sort, form_ok, rises, tag_in, idle, bare, line_step, table_step, switch_step}
 use Rattle.well_formed.specs.Pass.{demand_step, dead_step, entry_step, choice_step, clause_step, step_ok, once, keys_once, nothing, pass}
 use Rattle.well_formed.proofs.Fine.{args-above, FineTable, Fine}
 use Rattle.well_formed.proofs.PassParts.{and3, and4, and5, and6, idle-told, rec-is, bare-told, group-sort, form-key, entry-back, no_items, no-offsets, no-tables}
@@ -154,12 +154,12 @@ module _ (arity : ℕ) (dynamic : Bool) (known : ℕ → Bool) (total : ℕ) whe
         → Sound (r ∷ rs) (waiting (entry_from r ∷ w.entries) w.deads w.tables w.choices w.lines)
     unfolding entry_step
     entry-sound k e =
-        let x = and-true (form_ok r.sub r.half r.long) (leb (group_by_sort r.sub) (first_group w.entries)) e in
+        let x = and-true (form_ok r.sub r.half r.long) (leb (group_by_sort r.sub) (group_bound (first_group w.entries))) e in
         let f = form-key r.sub r.half r.long x.0 in
         let g : group_of (key_from r.sub r.half r.long) ≡ group_by_sort r.sub = group-sort r.sub r.half r.long in
         let low : 1 ≤ group_of (key_from r.sub r.half r.long) = key-group (key_from r.sub r.half r.long) f.0 in
-        let above : group_of (key_from r.sub r.half r.long) ≤ first_group w.entries =
-        omega (arith, le_of (group_by_sort r.sub) (first_group w.entries) x.1) in
+        let above : group_of (key_from r.sub r.half r.long) ≤ group_bound (first_group w.entries) =
+        omega (arith, le_of (group_by_sort r.sub) (group_bound (first_group w.entries)) x.1) in
         record {
           same = λ m h. ap₂ (λ (q : Rec) (qs : List Rec). q ∷ qs) (entry-back r k x.0) (S.same m h);
           keys = both (le-true 1 (group_of (key_from r.sub r.half r.long)) low)

@@ -1,59 +1,69 @@
 -- The tests of one record, by its kind, and a pointer by its word.
 -- Assumes nothing.
-use mathlib.Core.Path.{◌≡◌, ap}
-use mathlib.Core.Bool.{Bool, true, false, not, ◌||◌}
-use Prim.Native.Nat.{ℕ, ◌+◌, ◌-◌, ◌%◌, ◌≤◌, ◌<◌}
+use mathlib.Core.Path.{◌≡◌, refl, ◌∙◌, ap}
+use mathlib.Core.Bool.{Bool, true, false, cond}
+use Prim.Native.Nat.{ℕ, ◌-◌, ◌%◌, ◌≤◌, ◌<◌}
 use native.Mathlib.Omega.{arith}
-use borrow.Author.Tests.{eq-eqb, le-ltb, lt-ltb, leb-true, leb-false}
+use borrow.Author.Tests.{eqb-true, le-ltb, lt-ltb, leb-true, leb-false}
 use lib.Dec.{eqb}
 use Rattle.records.specs.declared.Rec.{Rec}
 use Rattle.records.specs.Pointer.{is_internal, distance_of}
-use Rattle.indexing.specs.Lines.{ext, int, mode_of}
+use Rattle.std.specs.Prelude.{Result, Ok, Err}
+use Rattle.indexing.specs.declared.kinds.Kind.{Kind}
+use Rattle.indexing.specs.declared.kinds.Kind.TheVariants.{Line, Switch, OnDemand, Dead, Entry, Choice, DeadClause}
+use Rattle.indexing.specs.declared.kinds.UnknownKind.{UnknownKind}
+use Rattle.indexing.specs.Kinds.{kind_number, kind_in}
+use Rattle.indexing.specs.Lines.{ext, int}
 use Rattle.indexing.specs.Reading.{pointer_from}
 use Rattle.well_formed.specs.declared.Waits.{Waits}
-use Rattle.well_formed.specs.Pass.{idle, bare, line_step, switch_step, demand_step, dead_step, entry_step, choice_step, clause_step, step_ok, group_by_sort, at_entry, after}
+use Rattle.well_formed.specs.Pass.{line_step, switch_step, demand_step, dead_step, entry_step, choice_step, clause_step, step_ok}
 
--- ---- a record of a kind
+-- ---- kinds by their numbers
 
-module _ (arity : ℕ) (dynamic : Bool) (known : ℕ → Bool) (total k : ℕ) (r : Rec) (s : Waits) where
-  pub step_line : k ≡ 1 → line_step dynamic total r s ≡ step_ok arity dynamic known total k r s
-  unfolding step_ok
-  step_line e = rw e
+abbrev number_in : Result Kind UnknownKind → ℕ
+number_in (Ok k) = kind_number k
+number_in (Err u) = 0
 
-  pub step-switch : k ≡ 2 → switch_step arity r s ≡ step_ok arity dynamic known total k r s
-  unfolding step_ok
-  step-switch e = rw e
+pub kind-told : (n : ℕ) (k : Kind) → kind_in n ≡ Ok k → n ≡ kind_number k
+kind-told n k e = go (eqb n 1) (eqb n 2) (eqb n 3) (eqb n 4) (eqb n 5) (eqb n 6) (eqb n 7) refl refl refl refl refl refl refl e
+  where
+    go : (b₁ b₂ b₃ b₄ b₅ b₆ b₇ : Bool) → eqb n 1 ≡ b₁ → eqb n 2 ≡ b₂ → eqb n 3 ≡ b₃ → eqb n 4 ≡ b₄ → eqb n 5 ≡ b₅ → eqb n 6 ≡ b₆ → eqb n 7 ≡ b₇
+        → ◌≡◌ {A = Result Kind UnknownKind}
+        (cond b₁ (Ok Line) (cond b₂ (Ok Switch) (cond b₃ (Ok OnDemand) (cond b₄ (Ok Dead) (cond b₅ (Ok Entry) (cond b₆ (Ok Choice)
+        (cond b₇ (Ok DeadClause) (Err (record { 0 = n }))))))))) (Ok k)
+        → n ≡ kind_number k
+    go true b₂ b₃ b₄ b₅ b₆ b₇ e₁ e₂ e₃ e₄ e₅ e₆ e₇ f = eqb-true n 1 e₁ ∙ ap number_in f
+    go false true b₃ b₄ b₅ b₆ b₇ e₁ e₂ e₃ e₄ e₅ e₆ e₇ f = eqb-true n 2 e₂ ∙ ap number_in f
+    go false false true b₄ b₅ b₆ b₇ e₁ e₂ e₃ e₄ e₅ e₆ e₇ f = eqb-true n 3 e₃ ∙ ap number_in f
+    go false false false true b₅ b₆ b₇ e₁ e₂ e₃ e₄ e₅ e₆ e₇ f = eqb-true n 4 e₄ ∙ ap number_in f
+    go false false false false true b₆ b₇ e₁ e₂ e₃ e₄ e₅ e₆ e₇ f = eqb-true n 5 e₅ ∙ ap number_in f
+    go false false false false false true b₇ e₁ e₂ e₃ e₄ e₅ e₆ e₇ f = eqb-true n 6 e₆ ∙ ap number_in f
+    go false false false false false false true e₁ e₂ e₃ e₄ e₅ e₆ e₇ f = eqb-true n 7 e₇ ∙ ap number_in f
+    go false false false false false false false e₁ e₂ e₃ e₄ e₅ e₆ e₇ f = cc
 
-  pub step-demand : k ≡ 3 → demand_step arity r s ≡ step_ok arity dynamic known total k r s
-  unfolding step_ok
-  step-demand e = rw e
-
-  pub step-dead : k ≡ 4 → dead_step arity r s ≡ step_ok arity dynamic known total k r s
-  unfolding step_ok
-  step-dead e = rw e
-
-  pub step-entry : k ≡ 5 → entry_step r s ≡ step_ok arity dynamic known total k r s
-  unfolding step_ok
-  step-entry e = rw e
-
-  pub step-choice : k ≡ 6 → choice_step dynamic known r s ≡ step_ok arity dynamic known total k r s
-  unfolding step_ok
-  step-choice e = rw e
-
-  pub step-clause : k ≡ 7 → clause_step known r s ≡ step_ok arity dynamic known total k r s
-  unfolding step_ok
-  step-clause e = rw e
-
--- the state once an entry is read
-pub after-entry : (k : ℕ) (r : Rec) (s : Waits) (a : ℕ) → k ≡ 5 → at_entry s (group_by_sort r.sub) a ≡ after k r s a
-unfolding after
-after-entry k r s a e = rw e
-
--- a line record that has all but an offset
-pub line-left : (dynamic : Bool) (total : ℕ) (r : Rec) (s : Waits) → r.sub ≡ mode_of dynamic → bare r ≡ true
-    → eqb (r.word + s.lines + 1) total ≡ true → idle s ≡ true → line_step dynamic total r s ≡ (dynamic || not (eqb s.offset 0))
-unfolding line_step
-line-left dynamic total r s a b c d = rw (eq-eqb r.sub (mode_of dynamic) a, b, c, d)
+-- a record of no kind is refused
+pub step_none : (arity : ℕ) (dynamic : Bool) (known : ℕ → Bool) (total n : ℕ) (r : Rec) (s : Waits) (u : UnknownKind) → kind_in n ≡ Err u
+    → step_ok arity dynamic known total n r s ≡ false
+unfolding step_ok
+step_none arity dynamic known total n r s u e = go (eqb n 1) (eqb n 2) (eqb n 3) (eqb n 4) (eqb n 5) (eqb n 6) (eqb n 7) e
+  where
+    go : (b₁ b₂ b₃ b₄ b₅ b₆ b₇ : Bool)
+        → ◌≡◌ {A = Result Kind UnknownKind}
+        (cond b₁ (Ok Line) (cond b₂ (Ok Switch) (cond b₃ (Ok OnDemand) (cond b₄ (Ok Dead) (cond b₅ (Ok Entry) (cond b₆ (Ok Choice)
+        (cond b₇ (Ok DeadClause) (Err (record { 0 = n }))))))))) (Err u)
+        → cond b₁ (line_step dynamic total r s)
+        (cond b₂ (switch_step arity r s)
+        (cond b₃ (demand_step arity r s)
+        (cond b₄ (dead_step arity r s)
+        (cond b₅ (entry_step r s) (cond b₆ (choice_step dynamic known r s) (cond b₇ (clause_step known r s) false)))))) ≡ false
+    go true b₂ b₃ b₄ b₅ b₆ b₇ f = cc
+    go false true b₃ b₄ b₅ b₆ b₇ f = cc
+    go false false true b₄ b₅ b₆ b₇ f = cc
+    go false false false true b₅ b₆ b₇ f = cc
+    go false false false false true b₆ b₇ f = cc
+    go false false false false false true b₇ f = cc
+    go false false false false false false true f = cc
+    go false false false false false false false f = refl
 
 -- ---- a pointer's word
 

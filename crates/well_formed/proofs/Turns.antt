@@ -13,7 +13,7 @@ use Rattle.indexing.proofs.Lists.{All}
 use Rattle.indexing.proofs.Tests.{bool-absurd, eqb-true, and-true}
 use Rattle.indexing.specs.Lines.{Ptr, Entry, switch, on_demand, dead, offs}
 use Rattle.indexing.specs.Reading.{pointer_from, entry_from, Waiting, waiting, read, read_all}
-use Rattle.well_formed.specs.Pass.{first_of, first_arg, first_group, reach, waits, group_by_sort, form_ok, rises, tag_in, idle, bare, table_step}
+use Rattle.well_formed.specs.Pass.{first_of, first_arg, first_group, group_bound, reach, waits, group_by_sort, form_ok, rises, tag_in, idle, bare, table_step}
 use Rattle.well_formed.specs.Pass.{demand_step, dead_step, entry_step, choice_step, clause_step, step_ok, after, keys_once, nothing, pass}
 use Rattle.well_formed.proofs.PassParts.{idle-told, group-sort, no_items}
 
@@ -116,7 +116,7 @@ module _ (arity : ℕ) (dynamic : Bool) (known : ℕ → Bool) (total : ℕ) whe
       behind-none w.entries (r ∷ rs) (no_items w.entries (and-true (eqb (length w.entries) 0) (table_step arity r (waits dynamic known w)) u).0)
   turn-behind {r = r} {w = w} rs (turn-entry e) t b =
       let u : entry_step r (waits dynamic known w) ≡ true = rw e at t in
-      let x = and-true (form_ok r.sub r.half r.long) (leb (group_by_sort r.sub) (first_group w.entries)) u in
+      let x = and-true (form_ok r.sub r.half r.long) (leb (group_by_sort r.sub) (group_bound (first_group w.entries))) u in
       (ap (λ (es : List (Entry Ptr)). entry_from r ∷ es) b.0, (x.0, b.1))
   turn-behind {r = r} {w = w} rs (turn-choice e) t b =
       let u : choice_step dynamic known r (waits dynamic known w) ≡ true = rw e at t in

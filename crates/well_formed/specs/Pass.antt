@@ -1,9 +1,12 @@
 -- The check of number 12 as the code makes it: record by record from the last to the first, as Reading reads them.
 -- Inner definitions, for the contracts of this crate's functions; proofs/PassIs shows that the check's answer is well_formed's.
 -- Assumes nothing.
-use Rattle.std.specs.Prelude.{◌≡◌, Bool, true, false, cond, not, ◌&&◌, ◌||◌, List, [], ◌∷◌, ℕ, zero, suc, ◌+◌, ◌-◌, eqb, leb, ltb, length, get_or, set}
+use Rattle.std.specs.Prelude.{◌≡◌, Bool, true, false, cond, not, ◌&&◌, ◌||◌, List, [], ◌∷◌, Option, None, Some, ℕ, zero, suc, ◌+◌, ◌-◌, eqb, leb, ltb, length, get_or, set}
 use Rattle.records.specs.declared.Rec.{Rec}
 use Rattle.indexing_iter.specs.declared.OptArgIndexKey.{OptArgIndexKey as Key}
+use Rattle.indexing_iter.specs.declared.group.Group.{Group}
+use Rattle.indexing_iter.specs.declared.group.Group.TheVariants.{Literals, List as Lists, Structures}
+use Rattle.indexing_iter.specs.Groups.{group_number}
 use Rattle.indexing_iter.specs.Keys.{group_of, same}
 use Rattle.indexing_iter.specs.Clauses.{known}
 use Rattle.indexing.specs.Lists.{any_of}
@@ -22,10 +25,19 @@ abbrev pub first_of : List ℕ → ℕ
 first_of [] = 0
 first_of (o ∷ os) = o
 
--- the group of the first of some entries; 4, above every group, where there is none
-abbrev pub first_group : List (Entry Ptr) → ℕ
-first_group [] = 4
-first_group (e ∷ es) = group_of e.key
+-- the group of a number; none of another than 1 to 3
+abbrev pub group_in : ℕ → Option Group
+group_in n = cond (eqb n 1) (Some Literals) (cond (eqb n 2) (Some Lists) (cond (eqb n 3) (Some Structures) None))
+
+-- what the group of an entry in front may be at most; 4, above every group, where there is none behind
+abbrev pub group_bound : Option Group → ℕ
+group_bound None = 4
+group_bound (Some g) = group_number g
+
+-- the group of the first of some entries, none where there is none
+abbrev pub first_group : List (Entry Ptr) → Option Group
+first_group [] = None
+first_group (e ∷ es) = group_in (group_of e.key)
 
 -- the lower of two numbers
 abbrev pub lower : ℕ → ℕ → ℕ
@@ -102,7 +114,7 @@ dead_step arity r s = eqb s.entries 0 && table_step arity r s
 
 -- an entry: its group is not above that of the next entry
 unfoldable pub entry_step : Rec → Waits → Bool
-entry_step r s = form_ok r.sub r.half r.long && leb (group_by_sort r.sub) s.group
+entry_step r s = form_ok r.sub r.half r.long && leb (group_by_sort r.sub) (group_bound s.group)
 
 -- an offset: no table and nothing of a table stands behind it
 unfoldable pub choice_step : Bool → (ℕ → Bool) → Rec → Waits → Bool
@@ -125,11 +137,11 @@ step_ok arity dynamic known total k r s =
 
 -- the state where a line begins, or nothing is read
 abbrev pub fresh : ℕ → Waits
-fresh lines = record { entries = 0; group = 4; below = 33; clause = 0; first = 33; offset = 0; lines = lines }
+fresh lines = record { entries = 0; group = None; below = 33; clause = 0; first = 33; offset = 0; lines = lines }
 
 -- the state once a switch is read, an on-demand table, a dead table, an entry, an offset, a dead clause
 abbrev pub at_switch : Waits → ℕ → Waits
-at_switch s a = record { entries = 0; group = 4; below = 33; clause = s.clause; first = a; offset = s.offset; lines = s.lines }
+at_switch s a = record { entries = 0; group = None; below = 33; clause = s.clause; first = a; offset = s.offset; lines = s.lines }
 
 abbrev pub at_demand : Waits → ℕ → Waits
 at_demand s a = record { entries = s.entries; group = s.group; below = s.below; clause = s.clause; first = a; offset = s.offset; lines = s.lines }
@@ -137,7 +149,7 @@ at_demand s a = record { entries = s.entries; group = s.group; below = s.below; 
 abbrev pub at_dead : Waits → ℕ → Waits
 at_dead s a = record { entries = s.entries; group = s.group; below = s.below; clause = 0; first = a; offset = s.offset; lines = s.lines }
 
-abbrev pub at_entry : Waits → ℕ → ℕ → Waits
+abbrev pub at_entry : Waits → Option Group → ℕ → Waits
 at_entry s g a = record {
   entries = s.entries + 1;
   group = g;
@@ -161,7 +173,7 @@ after k r s a =
     (cond (eqb k 2) (at_switch s r.half)
     (cond (eqb k 3) (at_demand s r.half)
     (cond (eqb k 4) (at_dead s r.half)
-    (cond (eqb k 5) (at_entry s (group_by_sort r.sub) a)
+    (cond (eqb k 5) (at_entry s (group_in (group_by_sort r.sub)) a)
     (cond (eqb k 6) (at_choice s r.word) (at_clause s r.word))))))
 
 -- ---- what the code keeps in lists

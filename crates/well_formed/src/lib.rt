@@ -15,13 +15,27 @@ ghost use Rattle.well_formed.specs.WellFormed.{well_formed};
 ghost use Rattle.well_formed.specs.Pass.{closed, marked, Marks, one_line, checked};
 ghost use Rattle.well_formed.specs.Chains.{Cleared};
 
+use indexing::kinds::Kind;
+use indexing_iter::group::Group;
+
+// What an index is checked against: marks has a 1 at each offset of a clause; total is how many lines the index has.
+#[derive(Clone, Copy)]
+pub struct Asked<'a> {
+    pub marks: &'a [u8],
+    pub total: usize,
+    pub arity: u32,
+    pub dynamic: bool,
+}
+
 // The state of the pass. Of what has no table or line record in front of it yet: how many entries, the group of the first of
-// them (4: none) and what the argument of their switch must be below; the first dead clause (0: none); the first table's
+// them and what the argument of their switch must be below; the first dead clause (0: none); the first table's
 // argument (33: none); the first offset (0: none). And how many lines are behind.
+// clause, first and offset are no Options: clause and offset are words of records, where 0 is no clause's offset; and 33 is above
+// every argument, so one comparison tells whether a table may stand in front.
 #[derive(Clone, Copy)]
 pub struct Waits {
     pub entries: usize,
-    pub group: u8,
+    pub group: Option<Group>,
     pub below: u16,
     pub clause: u32,
     pub first: u16,
@@ -30,32 +44,18 @@ pub struct Waits {
 }
 
 // Whether nothing is left without a table or line record in front, and there is a line.
+#[tactic(auto, unfolding(crate::specs::Pass::closed))]
 fn is_closed(s: Waits) -> bool
     ensures { result ≡ closed s }
 {
-    let first = s.first;
-    let offset = s.offset;
-    let lines = s.lines;
-    if !steps::is_idle(s) {
-        return false;
-    }
-    if first != 33 {
-        return false;
-    }
-    if offset != 0 {
-        return false;
-    }
-    0 < lines
+    steps::is_idle(s) && s.first == 33 && s.offset == 0 && 0 < s.lines
 }
 
 // 1 for a line record, else 0.
 fn one_line(kind: u8) -> usize
     ensures { (result ≡ one_line kind) × (result ≤ 1) }
 {
-    if kind == 1 {
-        return 1;
-    }
-    0
+    if kind == Kind::Line as u8 { 1 } else { 0 }
 }
 
 // How many lines the first count records have.
@@ -64,9 +64,7 @@ pub fn count_lines(index: &[u8], count: usize) -> usize
     ensures { result ≡ length (parse (take count (records_of index.now))) }
 {
     let mut lines = 0;
-    let mut i = count;
-    while 0 < i {
-        i -= 1;
+    for i in (0..count).rev() {
         let r = records::get(index, i);
         lines += one_line(r.kind);
     }
@@ -79,107 +77,62 @@ fn mark_starts(marks: &mut [u8], starts: &[u32])
     requires starts_value { rising_below (length marks.old - 1) starts.now ≡ true }
     ensures { Marks marks.new starts.now }
 {
-    let mut i = starts.len();
-    while 0 < i {
-        i -= 1;
-        let at = starts[i] as usize + 1;
-        marks[at] = 1;
+    for start in starts {
+        marks[*start as usize + 1] = 1;
     }
 }
 
 // The records from the last to the first, each in front of those behind it; firsts takes the first arguments of the lines.
-fn check_records(
-    index: &[u8],
-    count: usize,
-    total: usize,
-    marks: &[u8],
-    firsts: &mut [u16],
-    arity: u32,
-    dynamic: bool,
-) -> bool
+fn check_records(index: &[u8], count: usize, asked: &Asked, firsts: &mut [u16]) -> bool
     requires count_in_bounds { (count ≤ length (records_of index.now)) × (count ≤ 65535) }
     requires count_in_bounds_2 { count ≤ length firsts.old }
-    ensures { result ≡ checked arity dynamic (marked marks.now) total (take count (records_of index.now)) }
+    ensures { result ≡ checked asked.now.arity asked.now.dynamic (marked asked.now.marks.now) asked.now.total (take count (records_of index.now)) }
 {
     let mut s = steps::at_line(0);
-    let mut i = count;
-    while 0 < i {
-        let next = i;
-        i -= 1;
+    for i in (0..count).rev() {
         let r = records::get(index, i);
-        if !steps::record_ok(r, s, marks, total, arity, dynamic) {
+        let Ok(kind) = Kind::try_from(r.kind) else {
+            return false;
+        };
+        let entries = records::part(index, i + 1, i + 1 + s.entries);
+        if !(steps::record_ok(kind, r, s, asked) && keys::keys_ok(entries, kind)) {
             return false;
         }
-        if !keys::keys_ok(index, r.kind, next, s.entries) {
-            return false;
-        }
-        let lines = s.lines;
-        let first = s.first;
-        s = steps::after(r, s, firsts, marks, dynamic);
-        steps::note_line(firsts, r.kind, lines, first);
+        let next = steps::after(kind, r, s, firsts, asked);
+        steps::note_line(firsts, kind, s);
+        s = next;
     }
     is_closed(s)
 }
 
-// Number 12 with tables for the clauses' offsets and for the first arguments of the lines.
-fn formed_with(
+// Number 12 with tables of the sizes MARKS, for the clauses' offsets, and LINES, for the first arguments of the lines.
+fn formed_in<const MARKS: usize, const LINES: usize>(
     index: &[u8],
     count: usize,
     starts: &[u32],
     arity: u32,
     dynamic: bool,
-    marks: &mut [u8],
-    firsts: &mut [u16],
 ) -> bool
-    requires count_in_bounds { (count ≤ length (records_of index.now)) × (count ≤ 65535) × (count ≤ length firsts.old) }
-    requires starts_value { (rising_below (length marks.old - 1) starts.now ≡ true) × (length marks.old ≤ 32769) × Cleared marks.old }
+    requires sizes { (MARKS ≤ 32769) × (LINES ≤ 65535) }
+    requires count_in_bounds { (count ≤ length (records_of index.now)) × (count ≤ LINES) }
+    requires starts_value { rising_below (MARKS - 1) starts.now ≡ true }
     requires arity_bound { arity ≤ 32 }
     ensures { result ≡ well_formed arity dynamic (known starts.now) (take count (records_of index.now)) }
 {
-    mark_starts(marks, starts);
-    let total = count_lines(index, count);
-    check_records(index, count, total, marks, firsts, arity, dynamic)
-}
-
-// The same for code of at most 2,047 records and an index of at most 2,048, with little to clear.
-fn formed_few(index: &[u8], count: usize, starts: &[u32], arity: u32, dynamic: bool) -> bool
-    requires count_in_bounds { (count ≤ length (records_of index.now)) × (count ≤ 2048) }
-    requires starts_value { (rising_below 2047 starts.now ≡ true) × (arity ≤ 32) }
-    ensures { result ≡ well_formed arity dynamic (known starts.now) (take count (records_of index.now)) }
-{
-    let mut marks = [0u8; 2048];
-    let mut firsts = [0u16; 2048];
-    formed_with(
-        index,
-        count,
-        starts,
+    let mut marks = [0u8; MARKS];
+    let mut firsts = [0u16; LINES];
+    mark_starts(&mut marks, starts);
+    let asked = Asked {
+        marks: &marks,
+        total: count_lines(index, count),
         arity,
         dynamic,
-        &mut marks,
-        &mut firsts,
-    )
+    };
+    check_records(index, count, &asked, &mut firsts)
 }
 
-// The same for as many records as code and an index can have.
-fn formed_many(index: &[u8], count: usize, starts: &[u32], arity: u32, dynamic: bool) -> bool
-    requires count_in_bounds { (count ≤ length (records_of index.now)) × (count ≤ 65535) }
-    requires starts_value { (rising_below 32768 starts.now ≡ true) × (arity ≤ 32) }
-    ensures { result ≡ well_formed arity dynamic (known starts.now) (take count (records_of index.now)) }
-{
-    let mut marks = [0u8; 32769];
-    let mut firsts = [0u16; 65535];
-    formed_with(
-        index,
-        count,
-        starts,
-        arity,
-        dynamic,
-        &mut marks,
-        &mut firsts,
-    )
-}
-
-// Number 12, of the first count records of an index for checked code of n records with these starts.
+// Number 12, of the first count records of an index for checked code of n records with these starts: code of at most 2,047 records
+// and an index of at most 2,048 have small tables, with little to clear.
 pub fn well_formed(
     index: &[u8],
     count: usize,
@@ -193,10 +146,9 @@ pub fn well_formed(
     requires arity_bound { arity ≤ 32 }
     ensures { result ≡ well_formed arity dynamic (known starts.now) (take count (records_of index.now)) }
 {
-    if n <= 2047 {
-        if count <= 2048 {
-            return formed_few(index, count, starts, arity, dynamic);
-        }
+    if n <= 2047 && count <= 2048 {
+        formed_in::<2048, 2048>(index, count, starts, arity, dynamic)
+    } else {
+        formed_in::<32769, 65535>(index, count, starts, arity, dynamic)
     }
-    formed_many(index, count, starts, arity, dynamic)
 }

@@ -20,25 +20,25 @@ use Rattle.indexing_iter.proofs.collect_keys.Goals as goal
 turn : (c : After-extract_index_arg-a)
     →
     let a = c.args in
-    FillingStep c.extract_index_arg-a.result (class_in a.table.now) a.arity (slice (c.loop-i.i + 1) c.capacity-end.result (records_of a.code.now))
+    FillingStep c.extract_index_arg-a.result (class_in a.reader.now.table.now) a.arity (slice (c.loop-i.i + 1) c.capacity-end.result (records_of a.reader.now.code.now))
     c.loop-i.heads c.loop-i.bits
-    (collected head_of (class_in a.table.now) a.arity a.code.now a.starts.now a.offset c.clear_keys.new.heads)
-    (collected bits_of (class_in a.table.now) a.arity a.code.now a.starts.now a.offset c.clear_keys.new.bits)
+    (collected head_of (class_in a.reader.now.table.now) a.arity a.reader.now.code.now a.starts.now a.offset c.clear_keys.new.heads)
+    (collected bits_of (class_in a.reader.now.table.now) a.arity a.reader.now.code.now a.starts.now a.offset c.clear_keys.new.bits)
 turn c =
-    let rs = records_of c.args.code.now in
+    let rs = records_of c.args.reader.now.code.now in
     filling_step (get_or rs c.loop-i.i zero_rec) (slice (c.loop-i.i + 1) c.capacity-end.result rs) c.extract_index_arg-a.result c.loop-i.invariant.2
     (slice-step rs c.loop-i.i c.capacity-end.result c.loop-i-test.true (search rules)) c.extract_index_arg-a.ensures
 
 pub overflow_sub-i : goal.overflow_sub-i
 overflow_sub-i c =
-    omega (arith, known-within (class_in c.args.table.now) c.args.arity c.args.code.now c.args.starts.now c.args.offset c.requires.offset_value c.requires.starts_value)
+    omega (arith, known-within (class_in c.args.reader.now.table.now) c.args.arity c.args.reader.now.code.now c.args.starts.now c.args.offset c.requires.offset_value c.requires.starts_value)
 
 pub loop-i-init : goal.loop-i-init
 loop-i-init c =
     let a = c.args in (
       search rules,
       search rules,
-      filling-start (class_in a.table.now) a.arity a.code.now a.starts.now a.offset _ c.requires.offset_value c.requires.starts_value c.capacity-end.ensures
+      filling-start (class_in a.reader.now.table.now) a.arity a.reader.now.code.now a.starts.now a.offset _ c.requires.offset_value c.requires.starts_value c.capacity-end.ensures
           a.heads.now a.bits.now c.clear_keys.new.heads c.clear_keys.new.bits (search rules) (search rules)
           c.clear_keys.ensures.0 c.clear_keys.ensures.1,
     )
@@ -47,8 +47,8 @@ pub returns-in_default : goal.returns-in_default
 returns-in_default c =
     let a = c.args in
     let w = rw c.in_default.is at (turn (goal.at.returns-in_default c).After-extract_index_arg-a) in record {
-      heads_after = w.0 ∙ collected-cleared head_of (class_in a.table.now) a.arity a.code.now a.starts.now a.offset a.heads.now _ c.clear_keys.ensures.0;
-      bits_after = w.1 ∙ collected-cleared bits_of (class_in a.table.now) a.arity a.code.now a.starts.now a.offset a.bits.now _ c.clear_keys.ensures.1;
+      heads_after = w.0 ∙ collected-cleared head_of (class_in a.reader.now.table.now) a.arity a.reader.now.code.now a.starts.now a.offset a.heads.now _ c.clear_keys.ensures.0;
+      bits_after = w.1 ∙ collected-cleared bits_of (class_in a.reader.now.table.now) a.arity a.reader.now.code.now a.starts.now a.offset a.bits.now _ c.clear_keys.ensures.1;
     }
 
 pub overflow_sub-at : goal.overflow_sub-at
@@ -90,7 +90,7 @@ loop-i-preserved c =
 pub returns : goal.returns
 returns c =
     let a = c.args in
-    let w = filling-end c.loop-i.invariant.2 (slice-done (records_of a.code.now) _ _ c.loop-i-test.false) in record {
-      heads_after = w.0 ∙ collected-cleared head_of (class_in a.table.now) a.arity a.code.now a.starts.now a.offset a.heads.now _ c.clear_keys.ensures.0;
-      bits_after = w.1 ∙ collected-cleared bits_of (class_in a.table.now) a.arity a.code.now a.starts.now a.offset a.bits.now _ c.clear_keys.ensures.1;
+    let w = filling-end c.loop-i.invariant.2 (slice-done (records_of a.reader.now.code.now) _ _ c.loop-i-test.false) in record {
+      heads_after = w.0 ∙ collected-cleared head_of (class_in a.reader.now.table.now) a.arity a.reader.now.code.now a.starts.now a.offset a.heads.now _ c.clear_keys.ensures.0;
+      bits_after = w.1 ∙ collected-cleared bits_of (class_in a.reader.now.table.now) a.arity a.reader.now.code.now a.starts.now a.offset a.bits.now _ c.clear_keys.ensures.1;
     }

@@ -16,11 +16,11 @@ use Rattle.indexing_iter.proofs.key_by.Goals as goal
 turn : (c : After-extract_index_arg-a)
     → let a = c.args in
     let i = c.loop-i.i in
-    key_step c.extract_index_arg-a.result a.j (key_in (class_in a.table.now) (slice (i + 1) a.end (records_of a.code.now)) a.j)
-    ≡ key_in (class_in a.table.now) (slice a.start a.end (records_of a.code.now)) a.j
+    key_step c.extract_index_arg-a.result a.j (key_in (class_in a.reader.now.table.now) (slice (i + 1) a.end (records_of a.reader.now.code.now)) a.j)
+    ≡ key_in (class_in a.reader.now.table.now) (slice a.start a.end (records_of a.reader.now.code.now)) a.j
 unfolding key_in
 turn c = let a = c.args in
-    rw (slice-step (records_of a.code.now) _ _ c.loop-i-test.true (search rules), ← c.extract_index_arg-a.ensures)
+    rw (slice-step (records_of a.reader.now.code.now) _ _ c.loop-i-test.true (search rules), ← c.extract_index_arg-a.ensures)
     at c.loop-i.invariant
 
 pub returns-in_default : goal.returns-in_default

@@ -14,11 +14,13 @@ use Rattle.indexing_iter.proofs.key_of.Goals as goal
 
 pub overflow_sub-start : goal.overflow_sub-start
 overflow_sub-start c =
-    omega (arith, known-within class_of c.args.arity c.args.code.now c.args.starts.now c.args.offset c.requires.offset_value c.requires.starts_value)
+    let p = c.args.program.now in
+    omega (arith, known-within class_of p.settings.arity p.code.now p.starts.now c.args.offset c.requires p.checked)
 
 pub returns : goal.returns
 returns c =
     let a = c.args in
+    let p = a.program.now in
     c.key_at.ensures
-    ∙ ap (λ (rs : List Rec). key_in class_of (drop (a.offset - 1) rs) a.j) (sym (take-length (records_of a.code.now)))
-    ∙ key-on class_of a.arity a.code.now a.starts.now a.offset a.j c.requires.offset_value c.requires.starts_value
+    ∙ ap (λ (rs : List Rec). key_in class_of (drop (a.offset - 1) rs) a.j) (sym (take-length (records_of p.code.now)))
+    ∙ key-on class_of p.settings.arity p.code.now p.starts.now a.offset a.j c.requires p.checked

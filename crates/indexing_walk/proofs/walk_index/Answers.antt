@@ -1,18 +1,22 @@
-use mathlib.Core.Path.{◌≡◌}
+use mathlib.Core.Path.{ap, sym, ◌∙◌}
+use mathlib.Core.List.{List, ◌++◌}
+use Prim.Native.Nat.{ℕ, ◌≤◌}
 use native.Mathlib.Omega.{arith}
-use lib.ListN.{length}
+use lib.ListN.{length, drop}
+use lib.Seq.{length-take-le}
 use Rattle.indexing_iter.specs.Classes.{class_of}
 use Rattle.indexing_iter.proofs.KeyLaws.{code_ok}
 use Rattle.indexing_scan.specs.Calls.{result_of}
 use Rattle.indexing.proofs.Stored.{capacity-within, capacity-small}
+use Rattle.indexing_walk.specs.Walking.{Ends}
 use Rattle.indexing_walk.proofs.OuterLaws.{Begins, lines-few, starts-so, starts-kept, starts-comes, told_is}
 use borrow.Author.Rules.{rules}
-use Rattle.indexing_walk.proofs.walk_index.Goals.{After-count_lines-lines}
+use Rattle.indexing_walk.proofs.walk_index.Goals.{After-count_lines-lines, After-walk_lines-e}
 use Rattle.indexing_walk.proofs.walk_index.Goals as goal
 
 -- the buffer has a well-formed index in front, of the lines counted
 begins : (c : After-count_lines-lines)
-    → let a = c.args in Begins a.code.now a.starts.now a.settings a.index.now a.count c.count_lines-lines.result
+    → let a = c.args in Begins a.program.now.code.now a.program.now.starts.now a.program.now.settings a.index.now a.count c.count_lines-lines.result
 begins c = let index = c.requires.count_bound in
     record { fits = index.0; well = index.1; many = c.count_lines-lines.ensures }
 
@@ -24,27 +28,39 @@ count_lines-lines-requires c =
 pub overflow_cast-first : goal.overflow_cast-first
 overflow_cast-first c = omega (arith, lines-few (begins (goal.at.overflow_cast-first c).After-count_lines-lines))
 
-pub walk_lines-e-requires : goal.walk_lines-e-requires
-walk_lines-e-requires c =
-    record {
-      starts_value = c.requires.starts_value;
-      call_value = c.requires.call_value;
-      stands = starts-so (begins (goal.at.walk_lines-e-requires c).After-count_lines-lines);
-      list_len = c.requires.list_len;
-    }
+-- there are at most as many offsets as starts, and these are few
+few : (c : After-walk_lines-e) → (c.walk_lines-e.result.count ≤ length c.args.program.now.starts.now) × (length c.args.program.now.starts.now ≤ 1024)
+few c = let a = c.args in
+    (c.walk_lines-e.ensures.2, (code_ok class_of a.program.now.settings.arity a.program.now.code.now a.program.now.starts.now a.program.now.checked).few)
 
-pub copy_list-requires : goal.copy_list-requires
-copy_list-requires c =
-    let a = c.args in
+pub walk_lines-e-requires-clause-stands : goal.walk_lines-e-requires-clause-stands
+walk_lines-e-requires-clause-stands c = starts-so (begins (goal.at.walk_lines-e-requires-clause-stands c).After-count_lines-lines)
+
+pub slice_bounds-list-end : goal.slice_bounds-list-end
+slice_bounds-list-end c = omega (arith, few (goal.at.slice_bounds-list-end c).After-walk_lines-e)
+
+-- the walk has ended with the result of the call
+ends : (c : After-walk_lines-e)
+    → let a = c.args in
     let d = c.walk_lines-e in
-    let len : length d.new.list ≡ length a.list.now = search rules in
-    let few = (code_ok class_of a.settings.arity a.code.now a.starts.now c.requires.starts_value).few in
-    (omega (arith, d.ensures.2, few, len, c.requires.list_len.0), omega (arith, d.ensures.2, c.requires.starts_in_bounds))
+    Begins a.program.now.code.now a.program.now.starts.now a.program.now.settings a.index.now a.count c.count_lines-lines.result →
+    Ends d.new.index d.new.list (result_of class_of a.program.now.code.now a.program.now.starts.now a.program.now.settings a.call.now a.index.now a.count) d.result
+ends c k = c.walk_lines-e.ensures.0 _ (starts-comes k c.args.call.now)
+
+pub slice_bounds-copy_from_slice-end-3 : goal.slice_bounds-copy_from_slice-end-3
+slice_bounds-copy_from_slice-end-3 c =
+    let e = ends (goal.at.slice_bounds-copy_from_slice-end-3 c).After-walk_lines-e (begins (goal.at.slice_bounds-copy_from_slice-end-3 c).After-count_lines-lines) in
+    e.count ∙ ap length (sym e.offsets)
+
+pub copy_from_slice-requires : goal.copy_from_slice-requires
+copy_from_slice-requires c =
+    let e = ends (goal.at.copy_from_slice-requires c).After-walk_lines-e (begins (goal.at.copy_from_slice-requires c).After-count_lines-lines) in
+    length-take-le _ _ (omega (arith, few (goal.at.copy_from_slice-requires c).After-walk_lines-e, c.requires.starts_in_bounds)) ∙ e.count ∙ ap length (sym e.offsets)
 
 pub returns : goal.returns
 returns c = let a = c.args in
     let d = c.walk_lines-e in
     let k = begins (goal.at.returns c).After-count_lines-lines in
-    let W = result_of class_of a.code.now a.starts.now a.settings a.call.now a.index.now a.count in
-    told_is a.settings a.index.now d.new.index d.new.list a.out.now _ W d.result (d.ensures.0 W (starts-comes k a.call.now))
-    (d.ensures.1 a.index.now (starts-kept k (λ i. omega (arith, c.slice_known-1.given i)))) c.copy_list.ensures
+    told_is a.program.now.settings a.index.now d.new.index d.new.list a.out.now _ _ d.result (ends (goal.at.returns c).After-walk_lines-e k)
+    (d.ensures.1 a.index.now (starts-kept k (λ i. search rules)))
+    (ap (λ (x : List ℕ). x ++ drop d.result.count a.out.now) c.copy_from_slice.ensures.after)

@@ -1,33 +1,32 @@
--- k starts were met, and those left make up the rest. Assumes nothing.
-use mathlib.Core.Path.{sym, ap, ◌∙◌}
-use Prim.Native.Nat.{◌+◌}
+-- The records before record i are starts, but for the first, and those left make up the rest. Assumes nothing.
+use mathlib.Core.Path.{◌≡◌, sym, ap, ◌∙◌}
 use native.Mathlib.Omega.{arith}
+use Prim.Native.Nat.{◌≤◌}
+use lib.ListN.{length, drop}
+use Rattle.inputs.specs.Input.{starts_in}
 use Rattle.records.specs.Records.{records_of}
 use Rattle.inputs.proofs.StartLaws.{starts_more, starts-stop, starts-end}
 use Rattle.records.specs.declared.Rec.{Rec}
-use Rattle.records.proofs.Laws.{length-records_of}
-use borrow.Author.Rules.{rules}
 use Rattle.inputs.proofs.count_starts.Goals as goal
 
-pub overflow_add-k : goal.overflow_add-k
-overflow_add-k c = omega (arith, length-records_of c.args.input.now)
+pub returns-then-get : goal.returns-then-get
+returns-then-get c =
+    let l = c.loop-i in
+    let e = c.get.ensures in
+    let z = starts-stop (records_of c.args.input.now) l.i (omega arith) (λ q. c.if-get.true (ap (λ (r : Rec). r.kind) e ∙ q)) in
+    omega (arith, z, l.invariant)
 
-pub returns-then-r : goal.returns-then-r
-returns-then-r c =
-    let l = c.loop-k in
-    let e = c.get-r.ensures in
-    let z = starts-stop (records_of c.args.input.now) (l.k + 1) (omega arith) (λ q. c.if-r.true (ap (λ (r : Rec). r.kind) e ∙ q)) in
-    omega (arith, z, l.invariant.2)
-
-pub loop-k-preserved : goal.loop-k-preserved
-loop-k-preserved c =
-    let l = c.loop-k in
-    let e = c.get-r.ensures in
-    let z = starts_more (records_of c.args.input.now) (l.k + 1) (omega arith) (sym (ap (λ (r : Rec). r.kind) e) ∙ c.if-r.false) in
-    (search rules, search rules, omega (arith, z, l.invariant.2))
+pub loop-i-preserved : goal.loop-i-preserved
+loop-i-preserved c =
+    let l = c.loop-i in
+    let e = c.get.ensures in
+    let z = starts_more (records_of c.args.input.now) l.i (omega arith) (sym (ap (λ (r : Rec). r.kind) e) ∙ c.if-get.false) in
+    omega (arith, z, l.invariant)
 
 pub returns : goal.returns
 returns c =
-    let l = c.loop-k in
-    let z = starts-end (records_of c.args.input.now) (l.k + 1) (omega arith) in
-    omega (arith, z, l.invariant.2)
+    let l = c.loop-i in
+    let rs = records_of c.args.input.now in
+    let z = starts-end rs l.i (omega arith) in
+    let none : length rs ≤ 1 → length (starts_in (drop 1 rs)) ≡ 0 = starts-end rs 1 in
+    grind (arith, z, none, l.invariant)

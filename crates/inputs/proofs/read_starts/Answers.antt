@@ -12,14 +12,14 @@ use Rattle.inputs.proofs.read_starts.Goals as goal
 pub loop-i-init : goal.loop-i-init
 loop-i-init c = (search rules, fill_start _ _ (omega arith))
 
-pub get-r-requires : goal.get-r-requires
-get-r-requires c = behind-within (records_of c.args.input.now) c.loop-i.i (omega arith)
+pub get-requires : goal.get-requires
+get-requires c = behind-within (records_of c.args.input.now) c.loop-i.i (omega arith)
 
 pub loop-i-preserved : goal.loop-i-preserved
 loop-i-preserved c =
     let l = c.loop-i in
     let w = word-behind (records_of c.args.input.now) l.i (omega arith) in
-    (l.invariant.0, fill_more _ 0 l.invariant.1 (omega arith) (w ∙ sym (ap (λ (r : Rec). r.word) c.get-r.ensures)))
+    (l.invariant.0, fill_more _ 0 l.invariant.1 (omega arith) (w ∙ sym (ap (λ (r : Rec). r.word) c.get.ensures)))
 
 pub returns : goal.returns
 returns c = fill-whole c.loop-i.invariant.1 (omega arith) (omega arith)

@@ -1,5 +1,4 @@
 use mathlib.Core.Path.{◌≡◌}
-use Prim.Native.Nat.{◌-◌}
 use lib.ListN.{length, drop}
 use Rattle.records.specs.Records.{records_of}
 use Rattle.records.proofs.Filled.{Filled}
@@ -8,6 +7,3 @@ use Rattle.inputs.proofs.read_starts.Given as goal
 
 abbrev pub invariant-loop-i : goal.invariant-loop-i
 invariant-loop-i l = (length l.initial.starts ≡ length (starts_in (drop 1 (records_of l.input)))) × Filled (starts_in (drop 1 (records_of l.input))) l.initial.starts l.starts l.i
-
-abbrev pub decreases-loop-i : goal.decreases-loop-i
-decreases-loop-i l = length l.initial.starts - l.i

@@ -1,7 +1,7 @@
 -- The place written stays within the twenty bytes before the end. Assumes nothing.
 use native.Mathlib.Omega.{arith}
-use mathlib.Core.Path.{refl, sym, ◌∙◌}
-use Prim.Native.Nat.{◌+◌, ◌-◌, ◌%◌}
+use mathlib.Core.Path.{◌≡◌, refl, sym, ap, ◌∙◌}
+use Prim.Native.Nat.{ℕ, ◌+◌, ◌-◌, ◌%◌}
 use lib.ListN.{drop, length-set}
 use Rattle.listing.proofs.TextLaws.{turn_last, turn_more, digits-start, digits-end}
 use Rattle.listing.proofs.put_number.Goals as goal
@@ -27,7 +27,8 @@ loop-i-preserved c = let l = c.loop-i in
 
 pub returns : goal.returns
 returns c = let l = c.loop-i in
-    let a = c.args in record {
-      end_bound = (omega (arith, c, l.invariant.0), l.invariant.1);
-      text_after = sym (digits-end l.i (a.end - 20) l.rest (drop l.i l.text) (omega (arith, c))) ∙ l.invariant.3;
+    let a = c.args in
+    let e : l.i ≡ a.end - 20 = omega (arith, c, l.invariant.0) in record {
+      end_bound = (omega (arith, c), omega (arith, c));
+      text_after = ap (λ (k : ℕ). drop k l.text) (sym e) ∙ sym (digits-end l.i (a.end - 20) l.rest (drop l.i l.text) (omega (arith, c))) ∙ l.invariant.3;
     }

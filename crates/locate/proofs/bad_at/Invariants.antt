@@ -1,4 +1,4 @@
-use Prim.Native.Nat.{◌-◌, ◌+◌, ◌≤◌}
+use Prim.Native.Nat.{◌+◌}
 use mathlib.Core.Path.{◌≡◌}
 use lib.Seq.{slice}
 use Rattle.records.specs.Records.{records_of}
@@ -8,7 +8,7 @@ use Rattle.locate.proofs.LocateLaws.{bad_from}
 use Rattle.locate.proofs.bad_at.Given as goal
 
 abbrev pub invariant-loop-i : goal.invariant-loop-i
-invariant-loop-i l = (l.i ≤ l.end) × (l.i + bad_from (class_in l.table) l.arity (slice l.i l.end (records_of l.code)) l.last ≡ l.start + bad_at (class_in l.table) l.arity (slice l.start l.end (records_of l.code)))
-
-abbrev pub decreases-loop-i : goal.decreases-loop-i
-decreases-loop-i l = l.end - l.i
+invariant-loop-i l =
+    let rs = records_of l.reader.code.now in
+    let cls = class_in l.reader.table.now in
+    l.i + bad_from cls l.arity (slice l.i l.end rs) l.last ≡ l.start + bad_at cls l.arity (slice l.start l.end rs)

@@ -1,39 +1,48 @@
--- `records::move_up` meets its contract: the records from place i on stand k places higher, and what is still to be read is as it was. Assumes nothing.
-use mathlib.Core.Path.{◌≡◌, refl, ap, ◌∙◌}
-use Prim.Native.Nat.{ℕ, ◌-◌}
+-- `records::move_up` meets its contract: the bytes of the first n records are copied 16 k bytes up. Assumes nothing.
+use mathlib.Core.Path.{◌≡◌, refl, sym, ap, ap₂, ◌∙◌}
+use mathlib.Core.List.{List, ◌++◌, append_assoc}
+use Prim.Native.Nat.{ℕ, ◌+◌, ◌-◌, ◌*◌, ◌≤◌}
 use native.Mathlib.Omega.{arith}
-use lib.ListN.{length}
-use Rattle.records.specs.Records.{records_of, zero_rec}
-use Rattle.records.specs.Moves.{moved}
-use Rattle.records.proofs.Laws.{length-records_of, wrote, wrote-is}
-use Rattle.records.proofs.MoveLaws.{moved_none, moved_more}
+use native.Mathlib.Nat.{zero-add}
+use lib.ListN.{length, take, drop}
+use lib.Seq.{length-take-le, drop-drop}
+use Rattle.records.specs.declared.Rec.{Rec}
+use Rattle.records.specs.Records.{records_of, odd_of}
+use Rattle.records.specs.Moves.{written}
+use Rattle.records.proofs.Laws.{length-records_of, records_of-take, run-records_of, odd-run, wrote}
 use Rattle.records.proofs.move_up.Goals as goal
 
-pub loop-i-init : goal.loop-i-init
-loop-i-init c =
-    let t = c.args.tail.now in
-    (omega arith, refl, wrote t t _ refl (moved_none (records_of t) c.args.n c.args.k c.requires) refl)
+pub overflow_mul-len : goal.overflow_mul-len
+overflow_mul-len c = omega (arith, length-records_of c.args.tail.now)
 
-pub overflow_add-to : goal.overflow_add-to
-overflow_add-to c = omega (arith, length-records_of c.args.tail.now)
+pub overflow_mul-up : goal.overflow_mul-up
+overflow_mul-up c = omega (arith, length-records_of c.args.tail.now)
 
-pub loop-i-preserved : goal.loop-i-preserved
-loop-i-preserved c =
-    let p = c.put in
-    let t = c.args.tail.now in
-    let w = c.loop-i.invariant.2 in
-    let i : ℕ = c.loop-i.i in
-    let e : length p.new.index ≡ length t = p.auto.index ∙ c.loop-i.invariant.1 in (
-      omega arith,
-      e,
-      wrote t p.new.index _ e
-          (moved_more (records_of t) c.args.n c.args.k c.requires (records_of c.loop-i.tail) (records_of p.new.index) i (i - 1) _ zero_rec
-          (omega arith) c.loop-i.invariant.0 w.records c.get-r.ensures p.ensures.records)
-          (p.ensures.odd ∙ w.odd),
-    )
+pub copy_within-requires-clause-in_bounds : goal.copy_within-requires-clause-in_bounds
+copy_within-requires-clause-in_bounds c = omega (arith, length-records_of c.args.tail.now)
+
+pub copy_within-requires-clause-dest_in_bounds : goal.copy_within-requires-clause-dest_in_bounds
+copy_within-requires-clause-dest_in_bounds c = omega (arith, length-records_of c.args.tail.now)
 
 pub returns : goal.returns
 returns c =
     let a = c.args in
-    let e : c.loop-i.i ≡ 0 = omega arith in
-    wrote-is (ap (moved (records_of a.tail.now) a.n a.k) e) c.loop-i.invariant.2
+    let b = a.tail.now in
+    let n = a.n in
+    let k = a.k in
+    let l : List Rec = records_of b in
+    let y : List ℕ = take (16 * n) b in
+    let h : k + n ≤ length l = omega arith in
+    let v : 16 * n ≤ length b = omega (arith, length-records_of b) in
+    let z : 16 * n - 0 ≡ 16 * n = omega arith in
+    let e : length y ≡ 16 * n = length-take-le (16 * n) b v in
+    let f : c.copy_within.new.self ≡ take (16 * k) b ++ (y ++ drop (16 * n) (drop (16 * k) b)) =
+    c.copy_within.ensures.after ∙ ap (λ (m : ℕ). take (16 * k) b ++ take m b ++ drop (16 * k + m) b) z ∙ append_assoc (take (16 * k) b) y (drop (16 * k + 16 * n) b)
+    ∙ ap (λ (x : List ℕ). take (16 * k) b ++ (y ++ x)) (sym (drop-drop (16 * n) (16 * k) b)) in
+    let r : records_of y ≡ take n l = records_of-take n b v in
+    let s : k + length (take n l) ≡ n + k = omega (arith, length-take-le n l (omega arith)) in
+    wrote b _ _ c.copy_within.ensures.len
+    (ap records_of f ∙ run-records_of b y k n (16 * n) h e refl ∙ ap (written l k) r
+    ∙ append_assoc (take k l) (take n l) (drop (k + length (take n l)) l)
+    ∙ ap₂ (λ (x y : ℕ). take x l ++ (take n l ++ drop y l)) (sym (zero-add k)) s)
+    (ap odd_of f ∙ odd-run b y k n (16 * n) h e refl)

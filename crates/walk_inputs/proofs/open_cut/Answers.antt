@@ -1,22 +1,27 @@
--- The index is given, or built; out is cleared. Assumes nothing.
-use mathlib.Core.Path.{ap, ◌∙◌}
+-- The index is given, or built, or the builder refuses; out is cleared. Assumes nothing.
+use mathlib.Core.Path.{◌≡◌, ap, ◌∙◌}
 use Prim.Native.Nat.{ℕ}
-use lib.ListN.{replicate}
-use Rattle.walk_inputs.specs.declared.First.{First}
-use Rattle.walk_inputs.specs.Run.{opened_of}
-use Rattle.walk_inputs.proofs.RunLaws.{open-given, open-built}
+use lib.ListN.{length, replicate}
+use Rattle.std.proofs.lemmas.Result.{err_from_is_err_and}
+use Rattle.walk_inputs.proofs.RunLaws.{open-given, open-built, open-refused}
+use borrow.Author.Rules.{rules}
 use Rattle.walk_inputs.proofs.open_cut.Goals as goal
 
-pub returns-then-plan : goal.returns-then-plan
-returns-then-plan c =
-    let a = c.args in
-    let z = c.zeros in
-    open-given a.input.now a.plan c.requires.plan_value.0 _ (z.ensures ∙ ap (λ (n : ℕ). replicate {A = ℕ} n 0) c.requires.out_len.0) _ c.if-plan.true c.start_index.ensures
+pub returns-then-input : goal.returns-then-input
+returns-then-input c =
+    let a = c.args.input.now in
+    let z : c.fill.new.self ≡ replicate {A = ℕ} (length c.args.out.now) 0 = search rules in
+    open-given a.bytes.now a.plan a.plan_value _ (z ∙ ap (λ (n : ℕ). replicate {A = ℕ} n 0) c.requires.out_len.0) _ c.if-input.true c.start_index.ensures
+
+pub returns-in_err-built : goal.returns-in_err-built
+returns-in_err-built c =
+    let a = c.args.input.now in
+    let z : c.fill.new.self ≡ replicate {A = ℕ} (length c.args.out.now) 0 = search rules in
+    let p = err_from_is_err_and c.from_residual.result c.from_residual.ensures.1 in
+    rw (p.1, p.2) (open-refused a.bytes.now a.plan a.plan_value _ (z ∙ ap (λ (n : ℕ). replicate {A = ℕ} n 0) c.requires.out_len.0) _ _ _ c.if-input.false c.start_index.ensures c.in_err-built.ensures)
 
 pub returns : goal.returns
 returns c =
-    let a = c.args in
-    let z = c.zeros in
-    let b = c.build_index in
-    ap (λ (x : First). opened_of x b.new.index z.new.column) c.first_built.ensures
-    ∙ open-built a.input.now a.plan c.requires.plan_value.0 z.new.column (z.ensures ∙ ap (λ (n : ℕ). replicate {A = ℕ} n 0) c.requires.out_len.0) b.result _ _ c.if-plan.false c.start_index.ensures b.ensures
+    let a = c.args.input.now in
+    let z : c.fill.new.self ≡ replicate {A = ℕ} (length c.args.out.now) 0 = search rules in
+    open-built a.bytes.now a.plan a.plan_value _ (z ∙ ap (λ (n : ℕ). replicate {A = ℕ} n 0) c.requires.out_len.0) _ _ _ c.if-input.false c.start_index.ensures c.in_ok-built.ensures

@@ -2,10 +2,8 @@
 use mathlib.Core.Path.{ap, ◌∙◌}
 use native.Mathlib.Omega.{arith}
 use lib.ListN.{length-take}
-use Rattle.walk_inputs.specs.declared.Plan.{Plan}
-use Rattle.walk_inputs.specs.Run.{Opened, open_of, opened_in}
+use Rattle.walk_inputs.specs.Run.{Opened, opened_in}
 use Rattle.walk_inputs.proofs.RunLaws.{opened-front}
-use borrow.Author.Rules.{rules}
 use Rattle.walk_inputs.proofs.open_parts.Goals as goal
 
 pub slice_bounds-open_cut-end-2 : goal.slice_bounds-open_cut-end-2
@@ -19,14 +17,12 @@ slice_bounds-open_cut-end-5 c = simp length-take (omega arith)
 
 pub open_cut-requires : goal.open_cut-requires
 open_cut-requires c = record {
-  plan_value = (c.plan_in-plan.ensures.value, search rules, simp length-take (omega arith));
+  index_len = simp length-take (omega arith);
   out_len = simp length-take (omega arith);
 }
 
 pub returns : goal.returns
 returns c = let a = c.args in
-    let p = c.plan_in-plan in
+    let p = a.input.now.plan in
     let o = c.open_cut in
-    opened-front o.result p.result _ _ a.index.now a.out.now
-    ∙ ap (λ (x : Opened). opened_in p.result a.index.now a.out.now x) o.ensures
-    ∙ ap (λ (q : Plan). opened_in q a.index.now a.out.now (open_of a.input.now)) p.ensures.value
+    opened-front o.result p _ _ a.index.now a.out.now ∙ ap (λ (x : Opened). opened_in p a.index.now a.out.now x) o.ensures

@@ -4,4 +4,4 @@ use Rattle.walk_inputs.proofs.part_of.Goals as goal
 
 pub returns : goal.returns
 returns c = let a = c.args in
-    part-as a.input.now a.at a.n c.least-a.result c.least-e.result c.least-a.ensures c.least-e.ensures
+    part-as a.input.now a.at a.n c.min-a.result c.min-e.result c.min-a.ensures c.min-e.ensures

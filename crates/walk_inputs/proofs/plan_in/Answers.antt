@@ -32,5 +32,7 @@ returns c = let s = c.args.input.now in
     let z = plan-small s _ e (search rules) in
     record {
       value = e;
-      index_bound = (z.places, z.starts, z.capacity);
+      places = z.places;
+      calls = (z.calls, z.index);
+      room = (z.starts, z.capacity);
     }

@@ -15,5 +15,5 @@ overflow_add-place-4 c =
 
 pub returns : goal.returns
 returns c = let a = c.args in
-    planned-as a.n a.k _ _ _ _ _ _ _ _ a.r a.g c.place_of.ensures c.place_of-2.ensures c.left.ensures c.least-calls.ensures
-    c.left-2.ensures c.least-index.ensures c.least.ensures c.bit.ensures
+    planned-as a.n a.k _ _ _ _ _ _ _ _ a.r a.g c.place_of.ensures c.place_of-2.ensures c.saturating_sub.ensures c.min-calls.ensures
+    c.saturating_sub-2.ensures c.min-index.ensures c.min.ensures c.bit.ensures

@@ -4,10 +4,10 @@ use Rattle.records.specs.Records.{records_of}
 use Rattle.walk_inputs.proofs.PlanLaws.{record-found, record-missing}
 use Rattle.walk_inputs.proofs.record_of.Goals as goal
 
-pub returns-then-found-kind : goal.returns-then-found-kind
-returns-then-found-kind c = let s = c.args in
-    record-found (records_of s.input.now) _ s.at _ c.capacity-n.ensures c.record_in-r.ensures s.kind c.if-found-kind.true
+pub returns-then-r-kind : goal.returns-then-r-kind
+returns-then-r-kind c = let s = c.args in
+    record-found (records_of s.input.now) _ s.at _ c.capacity-n.ensures c.record_in-r.ensures s.kind c.if-r-kind.true
 
 pub returns : goal.returns
 returns c = let s = c.args in
-    c.zeros.ensures ∙ record-missing (records_of s.input.now) _ s.at _ c.capacity-n.ensures c.record_in-r.ensures s.kind c.if-found-kind.false
+    c.zeros.ensures ∙ record-missing (records_of s.input.now) _ s.at _ c.capacity-n.ensures c.record_in-r.ensures s.kind c.if-r-kind.false

@@ -5,7 +5,6 @@ use lib.ListN.{length-take}
 use Rattle.indexing_scan.specs.Calls.{Walked}
 use Rattle.walk_inputs.specs.Run.{walked_in}
 use Rattle.walk_inputs.proofs.RunLaws.{walked-front, walk-in-as}
-use borrow.Author.Rules.{rules}
 use Rattle.walk_inputs.proofs.walk_parts.Goals as goal
 
 pub slice_bounds-walk_cut-end-2 : goal.slice_bounds-walk_cut-end-2
@@ -18,12 +17,12 @@ pub slice_bounds-walk_cut-end-5 : goal.slice_bounds-walk_cut-end-5
 slice_bounds-walk_cut-end-5 c = simp length-take (omega arith)
 
 pub walk_cut-requires : goal.walk_cut-requires
-walk_cut-requires c = (c.plan_in-plan.ensures.value, search rules, simp length-take (omega arith))
+walk_cut-requires c = simp length-take (omega arith)
 
 pub returns : goal.returns
 returns c = let a = c.args in
-    let p = c.plan_in-plan in
+    let b = a.input.now in
     let o = c.walk_cut in
-    walked-front o.result p.result _ _ a.index.now a.out.now
-    ∙ ap (λ (x : Walked). walked_in p.result a.index.now a.out.now x) o.ensures
-    ∙ walk-in-as a.input.now p.result a.i a.index.now a.count a.out.now p.ensures.value
+    walked-front o.result b.plan _ _ a.index.now a.out.now
+    ∙ ap (λ (x : Walked). walked_in b.plan a.index.now a.out.now x) o.ensures
+    ∙ walk-in-as b.bytes.now b.plan a.i a.index.now a.count a.out.now b.plan_value

@@ -3,17 +3,16 @@ use mathlib.Core.Path.{◌≡◌}
 use native.Mathlib.Omega.{arith}
 use Rattle.walk_inputs.specs.Plan.{heard_of}
 use Rattle.walk_inputs.specs.Run.{calls_of, at_first, onward}
-use borrow.Author.Rules.{rules}
 use Rattle.walk_listing.proofs.print_calls.Goals as goal
 
 pub loop-i-init : goal.loop-i-init
-loop-i-init c = (search rules, search rules, at_first)
+loop-i-init c = at_first
 
 pub loop-i-preserved : goal.loop-i-preserved
 loop-i-preserved c = let w = c.walk_call-a in
-    (search rules, search rules, rw c.next_count-count.ensures (onward w.result _ _ c.loop-i.invariant.2 w.ensures))
+    rw c.next_count-count.ensures (onward w.result _ _ c.loop-i.invariant w.ensures)
 
 pub returns : goal.returns
 returns c = let l = c.loop-i in
     let e : calls_of (heard_of c.args.input.now) ≡ l.i = omega arith in
-    rw e l.invariant.2
+    rw e l.invariant

@@ -11,12 +11,12 @@ use Rattle.walk_listing.proofs.put_ended.Goals as goal
 pub returns : goal.returns
 returns c =
     let n = c.put_number-records_at.ensures in
-    let m = c.put_mark-mark_at.ensures in
+    let m = c.put_word-mark_at.ensures in
     let t = c.put_field-tables_at.ensures in
     let k = c.put_field-count_at.ensures in
     let l = c.put_field-line_at.ensures in
-    let w = c.put_case.ensures in
+    let w = c.put_word.ensures in
     let g : length c.args.text.now ≤ 106 = omega (arith, c) in record {
-      upper_bound = omega (arith, n.end_bound, m.end_bound, t.end_bound, k.end_bound, l.end_bound, w.upper_bound);
-      text_after = ended-parts c.args.e _ _ _ _ _ _ [] (n.text_after ∙ ap (decimal c.args.e.records) (drop_of_length-le c.args.text.now g)) m.text_after t.text_after k.text_after l.text_after w.text_after;
+      upper_bound = omega (arith, n.end_bound, m.word_value, t.end_bound, k.end_bound, l.end_bound, w.word_value, c.mark_word.ensures.len_bound, c.case_word.ensures.len_bound);
+      text_after = ended-parts c.args.e _ _ _ _ _ _ [] (n.text_after ∙ ap (decimal c.args.e.records) (drop_of_length-le c.args.text.now g)) (rw c.mark_word.ensures.value at m.text_after) t.text_after k.text_after l.text_after (rw c.case_word.ensures.value at w.text_after);
     }

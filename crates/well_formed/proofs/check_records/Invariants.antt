@@ -9,7 +9,4 @@ use Rattle.well_formed.proofs.check_records.Given as goal
 
 abbrev pub invariant-loop-i : goal.invariant-loop-i
 invariant-loop-i l = (l.i ≤ l.count) × (l.s.lines + l.i ≤ l.count) × (l.s.entries + l.i ≤ l.count) × (length l.firsts ≡ length l.initial.firsts)
-    × Met l.arity l.dynamic (marked l.marks) l.total (slice l.i l.count (records_of l.index)) l.s l.firsts
-
-abbrev pub decreases-loop-i : goal.decreases-loop-i
-decreases-loop-i l = l.i
+    × Met l.asked.arity l.asked.dynamic (marked l.asked.marks.now) l.asked.total (slice l.i l.count (records_of l.index)) l.s l.firsts

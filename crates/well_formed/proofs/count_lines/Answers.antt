@@ -1,17 +1,10 @@
 -- The lines counted are those of the records read, the last first. Assumes nothing.
-use mathlib.Core.Path.{◌≡◌, refl, ap, ◌∙◌}
+use mathlib.Core.Path.{ap, ◌∙◌}
 use Prim.Native.Nat.{ℕ, ◌+◌, ◌-◌}
 use native.Mathlib.Omega.{arith}
-use lib.ListN.{length}
-use lib.Seq.{slice, slice_empty}
 use Rattle.records.specs.Records.{records_of}
-use Rattle.indexing.specs.Reading.{parse}
 use Rattle.well_formed.proofs.Marking.{lines_more}
 use Rattle.well_formed.proofs.count_lines.Goals as goal
-
-pub loop-i-init : goal.loop-i-init
-loop-i-init c = let a = c.args in
-    (omega arith, omega arith, rw (slice_empty a.count (records_of a.index.now)) refl)
 
 pub loop-i-preserved : goal.loop-i-preserved
 loop-i-preserved c =
@@ -22,9 +15,3 @@ loop-i-preserved c =
           ∙ lines_more R c.args.count c.loop-i.i (c.loop-i.i - 1) c.loop-i.lines _ (omega arith) c.loop-i.invariant.0 c.requires.0
           c.get-r.ensures c.loop-i.invariant.2,
     )
-
-pub returns : goal.returns
-returns c =
-    let a = c.args in
-    let e : c.loop-i.i ≡ 0 = omega arith in
-    c.loop-i.invariant.2 ∙ ap (λ (i : ℕ). length (parse (slice i a.count (records_of a.index.now)))) e

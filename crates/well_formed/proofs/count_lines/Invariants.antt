@@ -8,6 +8,3 @@ use Rattle.well_formed.proofs.count_lines.Given as goal
 
 abbrev pub invariant-loop-i : goal.invariant-loop-i
 invariant-loop-i l = (l.i ≤ l.count) × (l.lines + l.i ≤ l.count) × (l.lines ≡ length (parse (slice l.i l.count (records_of l.index))))
-
-abbrev pub decreases-loop-i : goal.decreases-loop-i
-decreases-loop-i l = l.i

@@ -5,13 +5,13 @@ use Rattle.index_writer.proofs.BucketLaws.{sizes-length, size-at}
 use borrow.Author.Rules.{rules}
 use Rattle.index_writer.proofs.buckets.needs_line.Goals as goal
 
-pub returns-then-dynamic : goal.returns-then-dynamic
-unfolding needs_line
-returns-then-dynamic c = simp c.if-dynamic.true
+pub bounds-columns-i : goal.bounds-columns-i
+bounds-columns-i c =
+    let d = c.args.columns.now in
+    omega (arith, sizes-length d.clauses.leaders.now d.sizes.now d.sizes_value)
 
-pub bounds-sizes-i : goal.bounds-sizes-i
-bounds-sizes-i c = let a = c.args in omega (arith, sizes-length a.leaders.now a.sizes.now (search rules))
-
-pub returns : goal.returns
+pub returns-else-dynamic : goal.returns-else-dynamic
 unfolding needs_line
-returns c = let a = c.args in simp (size-at a.leaders.now a.sizes.now (search rules) a.i (search rules), c.if-dynamic.false)
+returns-else-dynamic c =
+    let d = c.args.columns.now in
+    simp (size-at d.clauses.leaders.now d.sizes.now d.sizes_value c.args.i (search rules), c.if-dynamic.false)

@@ -3,6 +3,7 @@ use mathlib.Core.Path.{◌≡◌, ap}
 use Prim.Native.Nat.{ℕ, ◌+◌}
 use native.Mathlib.Omega.{arith}
 use Rattle.indexing.specs.Columns.{lines_to, entry_at, entries}
+use Rattle.indexing_iter.specs.Groups.{group_number}
 use Rattle.index_writer.proofs.Gather.{gather-start, gather-room, gather-more, gather-end}
 use Rattle.index_writer.proofs.BucketLaws.{lines_start, lines_step, lines-le, distance-at, distance-grown}
 use Rattle.index_writer.proofs.buckets.put_entries.Goals.{In-loop-i}
@@ -11,43 +12,35 @@ use Rattle.index_writer.proofs.buckets.put_entries.Goals as goal
 -- what turn i writes, k its line among the new ones
 entry : (c : In-loop-i)
     → let a = c.args in
-    entry_at a.leaders.now a.heads.now a.bits.now a.offs.now a.dynamic a.g (c.loop-i.k + a.by) c.loop-i.i
-    ≡ entry_at a.leaders.now a.heads.now a.bits.now a.offs.now a.dynamic a.g
-    (a.d + a.by + lines_to a.leaders.now a.heads.now a.dynamic a.g c.loop-i.i) c.loop-i.i
+    entry_at a.columns.now.clauses.leaders.now a.columns.now.heads.now a.columns.now.bits.now a.columns.now.clauses.offs.now a.dynamic (group_number a.g) (c.loop-i.k + a.by) c.loop-i.i
+    ≡ entry_at a.columns.now.clauses.leaders.now a.columns.now.heads.now a.columns.now.bits.now a.columns.now.clauses.offs.now a.dynamic (group_number a.g)
+    (a.d + a.by + lines_to a.columns.now.clauses.leaders.now a.columns.now.heads.now a.dynamic (group_number a.g) c.loop-i.i) c.loop-i.i
 entry c = let a = c.args in
-    ap (λ (x : ℕ). entry_at a.leaders.now a.heads.now a.bits.now a.offs.now a.dynamic a.g x c.loop-i.i) (distance-grown a.d a.by _ c.loop-i.invariant.0)
+    ap (λ (x : ℕ). entry_at a.columns.now.clauses.leaders.now a.columns.now.heads.now a.columns.now.bits.now a.columns.now.clauses.offs.now a.dynamic (group_number a.g) x c.loop-i.i) (distance-grown a.d a.by _ c.loop-i.invariant.0)
 
 pub loop-i-init : goal.loop-i-init
 unfolding entries
 loop-i-init c =
     let a = c.args in (
-      lines_start a.leaders.now a.heads.now a.dynamic a.g a.d,
-      lines-le a.leaders.now a.heads.now a.dynamic a.g 0,
+      lines_start a.columns.now.clauses.leaders.now a.columns.now.heads.now a.dynamic (group_number a.g) a.d,
+      lines-le a.columns.now.clauses.leaders.now a.columns.now.heads.now a.dynamic (group_number a.g) 0,
       gather-start _ _ a.index.now a.p c.requires.by_in_bounds,
     )
 
 pub put_entry-q-requires : goal.put_entry-q-requires
 put_entry-q-requires c = let l = c.loop-i in
-    let n = c.requires.heads_len in
     let t = c.loop-i-test.true in
     record {
-      i_in_bounds = (t, n.0, n.1, n.2, distance-at c.args.d c.args.by l.invariant.0 l.invariant.1 t n.3);
-      sizes_value = c.requires.sizes_value;
-      i_in_bounds_2 = gather-room _ l.invariant.2 t (entry (goal.at.put_entry-q-requires c).In-loop-i);
+      i_bound = (t, distance-at c.args.d c.args.by l.invariant.0 l.invariant.1 t c.requires.d_bound);
+      i_in_bounds = gather-room _ l.invariant.2 t (entry (goal.at.put_entry-q-requires c).In-loop-i);
     }
-
-pub line_step-k-requires : goal.line_step-k-requires
-line_step-k-requires c = record {
-  i_in_bounds = omega arith;
-  sizes_value = c.requires.sizes_value;
-}
 
 pub loop-i-preserved : goal.loop-i-preserved
 loop-i-preserved c = let l = c.loop-i in
     let a = c.args in
     let w = c.put_entry-q in (
-      omega (arith, c.line_step-k.ensures.0, lines_step a.leaders.now a.heads.now a.dynamic a.g l.i),
-      lines-le a.leaders.now a.heads.now a.dynamic a.g (l.i + 1),
+      omega (arith, c.line_step-k.ensures.0, lines_step a.columns.now.clauses.leaders.now a.columns.now.heads.now a.dynamic (group_number a.g) l.i),
+      lines-le a.columns.now.clauses.leaders.now a.columns.now.heads.now a.dynamic (group_number a.g) (l.i + 1),
       gather-more w.new.index w.result _ l.invariant.2 c.loop-i-test.true (entry (goal.at.loop-i-preserved c).In-loop-i) w.auto.index w.ensures,
     )
 

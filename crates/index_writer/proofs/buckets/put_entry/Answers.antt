@@ -8,6 +8,7 @@ use Rattle.records.specs.declared.Rec.{Rec}
 use Rattle.records.specs.Records.{rec_of, records_of}
 use Rattle.records.proofs.Laws.{length-records_of}
 use Rattle.indexing.specs.Columns.{entry_of, entry_at}
+use Rattle.indexing_iter.specs.Groups.{group_number}
 use Rattle.index_writer.proofs.Left.{one-room, puts_one, puts_none}
 use Rattle.index_writer.proofs.BucketLaws.{entry-yes, entry-no, pointer_is}
 use Rattle.index_writer.proofs.buckets.put_entry.Goals.{Then-opens_bucket}
@@ -16,13 +17,13 @@ use Rattle.index_writer.proofs.buckets.put_entry.Goals as goal
 -- clause i opens a bucket, so its entry is to be written, and there is room for it
 opened : (t : Then-opens_bucket)
     → let a = t.args in
-    entry_at a.leaders.now a.heads.now a.bits.now a.offs.now a.dynamic a.g (a.d + a.by) a.i
-    ≡ entry_of a.leaders.now a.heads.now a.bits.now a.offs.now a.dynamic (a.d + a.by) a.i ∷ []
+    entry_at a.columns.now.clauses.leaders.now a.columns.now.heads.now a.columns.now.bits.now a.columns.now.clauses.offs.now a.dynamic (group_number a.g) (a.d + a.by) a.i
+    ≡ entry_of a.columns.now.clauses.leaders.now a.columns.now.heads.now a.columns.now.bits.now a.columns.now.clauses.offs.now a.dynamic (a.d + a.by) a.i ∷ []
 opened t = let a = t.args in
-    entry-yes a.leaders.now a.heads.now a.bits.now a.offs.now a.dynamic a.g (a.d + a.by) a.i (sym t.opens_bucket.ensures ∙ t.if-opens_bucket.true)
+    entry-yes a.columns.now.clauses.leaders.now a.columns.now.heads.now a.columns.now.bits.now a.columns.now.clauses.offs.now a.dynamic (group_number a.g) (a.d + a.by) a.i (sym t.opens_bucket.ensures ∙ t.if-opens_bucket.true)
 
 room : (t : Then-opens_bucket) → let a = t.args in a.q < length (records_of a.index.now)
-room t = one-room (opened t) t.requires.i_in_bounds_2
+room t = one-room (opened t) t.requires.i_in_bounds
 
 pub put-requires : goal.put-requires
 put-requires c = room (goal.at.put-requires c).Then-opens_bucket
@@ -34,12 +35,12 @@ pub returns-then-opens_bucket : goal.returns-then-opens_bucket
 returns-then-opens_bucket c =
     let a = c.args in
     let p = c.put in
-    let head : ℕ = get_or a.heads.now a.i 0 in
-    let e : ℕ → Rec = λ w. rec_of 5 (head / 65536 % 256) (head % 65536) w (get_or a.bits.now a.i 0) in
-    let w = c.pointer_to-word.ensures ∙ pointer_is a.leaders.now a.heads.now a.bits.now a.offs.now a.dynamic (a.d + a.by) a.i in
-    puts_one a.index.now p.new.index a.q (opened (goal.at.returns-then-opens_bucket c).Then-opens_bucket) (ap e w) c.requires.i_in_bounds_2 p.ensures
+    let head : ℕ = get_or a.columns.now.heads.now a.i 0 in
+    let e : ℕ → Rec = λ w. rec_of 5 (head / 65536 % 256) (head % 65536) w (get_or a.columns.now.bits.now a.i 0) in
+    let w = c.pointer_to-word.ensures ∙ pointer_is a.columns.now.clauses.leaders.now a.columns.now.heads.now a.columns.now.bits.now a.columns.now.clauses.offs.now a.dynamic (a.d + a.by) a.i in
+    puts_one a.index.now p.new.index a.q (opened (goal.at.returns-then-opens_bucket c).Then-opens_bucket) (ap e w) c.requires.i_in_bounds p.ensures
 
 pub returns : goal.returns
 returns c = let a = c.args in
     puts_none a.index.now a.q
-    (entry-no a.leaders.now a.heads.now a.bits.now a.offs.now a.dynamic a.g (a.d + a.by) a.i (sym c.opens_bucket.ensures ∙ c.if-opens_bucket.false))
+    (entry-no a.columns.now.clauses.leaders.now a.columns.now.heads.now a.columns.now.bits.now a.columns.now.clauses.offs.now a.dynamic (group_number a.g) (a.d + a.by) a.i (sym c.opens_bucket.ensures ∙ c.if-opens_bucket.false))

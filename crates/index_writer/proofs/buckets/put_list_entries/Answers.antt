@@ -13,8 +13,8 @@ use Rattle.index_writer.proofs.buckets.put_list_entries.Goals.{Else-empty_list, 
 use Rattle.index_writer.proofs.buckets.put_list_entries.Goals as goal
 
 -- no clause has a list: one entry is to be written, and there is room for it
-none : (t : Then-empty_list) → let a = t.args in list_entries a.leaders.now a.heads.now a.bits.now a.offs.now a.dynamic (a.d + a.by) ≡ rec_of 5 5 0 (2147483648 + (a.d + a.by)) 0 ∷ []
-none t = let a = t.args in list-empty a.leaders.now a.heads.now a.bits.now a.offs.now a.dynamic (a.d + a.by) (sym t.empty_list.ensures ∙ t.if-empty_list.true)
+none : (t : Then-empty_list) → let a = t.args in list_entries a.columns.now.clauses.leaders.now a.columns.now.heads.now a.columns.now.bits.now a.columns.now.clauses.offs.now a.dynamic (a.d + a.by) ≡ rec_of 5 5 0 (2147483648 + (a.d + a.by)) 0 ∷ []
+none t = let a = t.args in list-empty a.columns.now.clauses.leaders.now a.columns.now.heads.now a.columns.now.bits.now a.columns.now.clauses.offs.now a.dynamic (a.d + a.by) (sym t.empty_list.ensures ∙ t.if-empty_list.true)
 
 room : (t : Then-empty_list) → let a = t.args in a.p < length (records_of a.index.now)
 room t = one-room (none t) t.requires.by_in_bounds
@@ -22,8 +22,8 @@ room t = one-room (none t) t.requires.by_in_bounds
 -- else they are those of the group
 some : (t : Else-empty_list)
     → let a = t.args in
-    list_entries a.leaders.now a.heads.now a.bits.now a.offs.now a.dynamic (a.d + a.by) ≡ entries a.leaders.now a.heads.now a.bits.now a.offs.now a.dynamic 2 (a.d + a.by)
-some t = let a = t.args in list_full a.leaders.now a.heads.now a.bits.now a.offs.now a.dynamic (a.d + a.by) (sym t.empty_list.ensures ∙ t.if-empty_list.false)
+    list_entries a.columns.now.clauses.leaders.now a.columns.now.heads.now a.columns.now.bits.now a.columns.now.clauses.offs.now a.dynamic (a.d + a.by) ≡ entries a.columns.now.clauses.leaders.now a.columns.now.heads.now a.columns.now.bits.now a.columns.now.clauses.offs.now a.dynamic 2 (a.d + a.by)
+some t = let a = t.args in list_full a.columns.now.clauses.leaders.now a.columns.now.heads.now a.columns.now.bits.now a.columns.now.clauses.offs.now a.dynamic (a.d + a.by) (sym t.empty_list.ensures ∙ t.if-empty_list.false)
 
 pub put-requires : goal.put-requires
 put-requires c = room (goal.at.put-requires c).Then-empty_list
@@ -40,8 +40,7 @@ returns-then-empty_list c =
 pub put_entries-requires : goal.put_entries-requires
 put_entries-requires c =
     record {
-      heads_len = c.requires.heads_len;
-      sizes_value = c.requires.sizes_value;
+      d_bound = c.requires.d_bound;
       by_in_bounds = room_as c.args.p (some (goal.at.put_entries-requires c).Else-empty_list) c.requires.by_in_bounds;
     }
 

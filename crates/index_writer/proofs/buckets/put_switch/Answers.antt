@@ -28,10 +28,10 @@ after-switch : (c : After-put)
     → let a = c.args in
     let x = c.list_lines-d3.result in
     let y = c.count_lines.result in
-    Left a.index.now a.p (switch_recs a.leaders.now a.heads.now a.bits.now a.offs.now a.dynamic a.arg (1 + a.by)) (a.p + 1)
-    (entries a.leaders.now a.heads.now a.bits.now a.offs.now a.dynamic 1 (1 + x + y + a.by)
-    ++ (list_entries a.leaders.now a.heads.now a.bits.now a.offs.now a.dynamic (1 + a.by)
-    ++ entries a.leaders.now a.heads.now a.bits.now a.offs.now a.dynamic 3 (1 + x + a.by))) c.put.new.index
+    Left a.index.now a.p (switch_recs a.columns.now.clauses.leaders.now a.columns.now.heads.now a.columns.now.bits.now a.columns.now.clauses.offs.now a.dynamic a.arg (1 + a.by)) (a.p + 1)
+    (entries a.columns.now.clauses.leaders.now a.columns.now.heads.now a.columns.now.bits.now a.columns.now.clauses.offs.now a.dynamic 1 (1 + x + y + a.by)
+    ++ (list_entries a.columns.now.clauses.leaders.now a.columns.now.heads.now a.columns.now.bits.now a.columns.now.clauses.offs.now a.dynamic (1 + a.by)
+    ++ entries a.columns.now.clauses.leaders.now a.columns.now.heads.now a.columns.now.bits.now a.columns.now.clauses.offs.now a.dynamic 3 (1 + x + a.by))) c.put.new.index
 after-switch c =
     left_one c.put.new.index _ _
     (begin _ _ _ _ _ _ _ c.args.index.now c.args.p c.list_lines-d3.ensures.value c.count_lines.ensures.value c.requires.by_in_bounds)
@@ -42,24 +42,24 @@ after-literals : (c : After-put_entries-q)
     → let a = c.args in
     let x = c.list_lines-d3.result in
     let y = c.count_lines.result in
-    Left a.index.now a.p (switch_recs a.leaders.now a.heads.now a.bits.now a.offs.now a.dynamic a.arg (1 + a.by)) (a.p + 1)
-    (entries a.leaders.now a.heads.now a.bits.now a.offs.now a.dynamic 1 (1 + x + y + a.by)
-    ++ (list_entries a.leaders.now a.heads.now a.bits.now a.offs.now a.dynamic (1 + a.by)
-    ++ entries a.leaders.now a.heads.now a.bits.now a.offs.now a.dynamic 3 (1 + x + a.by))) c.put.new.index
-    → Left a.index.now a.p (switch_recs a.leaders.now a.heads.now a.bits.now a.offs.now a.dynamic a.arg (1 + a.by)) c.put_entries-q.result
-    (list_entries a.leaders.now a.heads.now a.bits.now a.offs.now a.dynamic (1 + a.by)
-    ++ entries a.leaders.now a.heads.now a.bits.now a.offs.now a.dynamic 3 (1 + x + a.by)) c.put_entries-q.new.index
+    Left a.index.now a.p (switch_recs a.columns.now.clauses.leaders.now a.columns.now.heads.now a.columns.now.bits.now a.columns.now.clauses.offs.now a.dynamic a.arg (1 + a.by)) (a.p + 1)
+    (entries a.columns.now.clauses.leaders.now a.columns.now.heads.now a.columns.now.bits.now a.columns.now.clauses.offs.now a.dynamic 1 (1 + x + y + a.by)
+    ++ (list_entries a.columns.now.clauses.leaders.now a.columns.now.heads.now a.columns.now.bits.now a.columns.now.clauses.offs.now a.dynamic (1 + a.by)
+    ++ entries a.columns.now.clauses.leaders.now a.columns.now.heads.now a.columns.now.bits.now a.columns.now.clauses.offs.now a.dynamic 3 (1 + x + a.by))) c.put.new.index
+    → Left a.index.now a.p (switch_recs a.columns.now.clauses.leaders.now a.columns.now.heads.now a.columns.now.bits.now a.columns.now.clauses.offs.now a.dynamic a.arg (1 + a.by)) c.put_entries-q.result
+    (list_entries a.columns.now.clauses.leaders.now a.columns.now.heads.now a.columns.now.bits.now a.columns.now.clauses.offs.now a.dynamic (1 + a.by)
+    ++ entries a.columns.now.clauses.leaders.now a.columns.now.heads.now a.columns.now.bits.now a.columns.now.clauses.offs.now a.dynamic 3 (1 + x + a.by)) c.put_entries-q.new.index
 after-literals c L = let w = c.put_entries-q in left-run w.new.index w.result _ _ L w.ensures.0 w.auto.index w.ensures.1
 
 -- and the list's
 after-lists : (c : After-put_list_entries-q)
     → let a = c.args in
     let x = c.list_lines-d3.result in
-    Left a.index.now a.p (switch_recs a.leaders.now a.heads.now a.bits.now a.offs.now a.dynamic a.arg (1 + a.by)) c.put_entries-q.result
-    (list_entries a.leaders.now a.heads.now a.bits.now a.offs.now a.dynamic (1 + a.by)
-    ++ entries a.leaders.now a.heads.now a.bits.now a.offs.now a.dynamic 3 (1 + x + a.by)) c.put_entries-q.new.index
-    → Left a.index.now a.p (switch_recs a.leaders.now a.heads.now a.bits.now a.offs.now a.dynamic a.arg (1 + a.by)) c.put_list_entries-q.result
-    (entries a.leaders.now a.heads.now a.bits.now a.offs.now a.dynamic 3 (1 + x + a.by)) c.put_list_entries-q.new.index
+    Left a.index.now a.p (switch_recs a.columns.now.clauses.leaders.now a.columns.now.heads.now a.columns.now.bits.now a.columns.now.clauses.offs.now a.dynamic a.arg (1 + a.by)) c.put_entries-q.result
+    (list_entries a.columns.now.clauses.leaders.now a.columns.now.heads.now a.columns.now.bits.now a.columns.now.clauses.offs.now a.dynamic (1 + a.by)
+    ++ entries a.columns.now.clauses.leaders.now a.columns.now.heads.now a.columns.now.bits.now a.columns.now.clauses.offs.now a.dynamic 3 (1 + x + a.by)) c.put_entries-q.new.index
+    → Left a.index.now a.p (switch_recs a.columns.now.clauses.leaders.now a.columns.now.heads.now a.columns.now.bits.now a.columns.now.clauses.offs.now a.dynamic a.arg (1 + a.by)) c.put_list_entries-q.result
+    (entries a.columns.now.clauses.leaders.now a.columns.now.heads.now a.columns.now.bits.now a.columns.now.clauses.offs.now a.dynamic 3 (1 + x + a.by)) c.put_list_entries-q.new.index
 after-lists c L = let w = c.put_list_entries-q in left-run w.new.index w.result _ _ L w.ensures.0 w.auto.index w.ensures.1
 
 pub put-requires : goal.put-requires
@@ -70,10 +70,9 @@ overflow_add-q c = omega (arith, left-place _ _ (begin _ _ _ _ _ _ _ c.args.inde
 
 pub put_entries-q-requires : goal.put_entries-q-requires
 put_entries-q-requires c =
-    let small = distance-small c.requires.leaders_len_bound.0 c.requires.leaders_len_bound.1 c.list_lines-d3.ensures.upper_bound c.count_lines.ensures.upper_bound in
+    let small = distance-small c.args.columns.now.clauses.few c.requires.by_bound c.list_lines-d3.ensures.upper_bound c.count_lines.ensures.upper_bound in
     record {
-      heads_len = (c.requires.heads_len.0, c.requires.heads_len.1, c.requires.heads_len.2, small);
-      sizes_value = c.requires.sizes_value;
+      d_bound = small;
       by_in_bounds = left-room _ _ (after-switch (goal.at.put_entries-q-requires c).After-put);
     }
 
@@ -81,18 +80,16 @@ pub put_list_entries-q-requires : goal.put_list_entries-q-requires
 put_list_entries-q-requires c =
     let g = goal.at.put_list_entries-q-requires c in
     record {
-      heads_len = (c.requires.heads_len.0, c.requires.heads_len.1, c.requires.heads_len.2, distance-first c.requires.leaders_len_bound.0 c.requires.leaders_len_bound.1);
-      sizes_value = c.requires.sizes_value;
+      d_bound = distance-first c.args.columns.now.clauses.few c.requires.by_bound;
       by_in_bounds = left-room _ _ (after-literals g.After-put_entries-q (after-switch g.After-put));
     }
 
 pub put_entries-requires : goal.put_entries-requires
 put_entries-requires c =
     let g = goal.at.put_entries-requires c in
-    let small = distance_next c.requires.leaders_len_bound.0 c.requires.leaders_len_bound.1 c.list_lines-d3.ensures.upper_bound in
+    let small = distance_next c.args.columns.now.clauses.few c.requires.by_bound c.list_lines-d3.ensures.upper_bound in
     record {
-      heads_len = (c.requires.heads_len.0, c.requires.heads_len.1, c.requires.heads_len.2, small);
-      sizes_value = c.requires.sizes_value;
+      d_bound = small;
       by_in_bounds = (after-lists g.After-put_list_entries-q (after-literals g.After-put_entries-q (after-switch g.After-put))).room;
     }
 

@@ -17,10 +17,10 @@ loop-j-init c = let a = c.args in
 pub put_choice-q-requires : goal.put_choice-q-requires
 put_choice-q-requires c =
     let a = c.args in
-    let k : c.loop-j.q - a.p ≡ count_to (member a.leaders.now a.i) c.loop-j.j = omega (arith, c.loop-j.invariant.2.grown.next, length-members a.leaders.now a.offs.now a.tags.now a.dynamic a.default a.i c.loop-j.j) in
-    let m = ap₂ (λ (x y : ℕ). choice_at a.leaders.now a.offs.now a.tags.now a.dynamic a.default x a.i y c.loop-j.j) c.loop-j.invariant.1 k in
+    let k : c.loop-j.q - a.p ≡ count_to (member a.clauses.now.leaders.now a.i) c.loop-j.j = omega (arith, c.loop-j.invariant.2.grown.next, length-members a.clauses.now.leaders.now a.clauses.now.offs.now a.clauses.now.tags.now a.settings.dynamic a.settings.non_counted a.i c.loop-j.j) in
+    let m = ap₂ (λ (x y : ℕ). choice_at a.clauses.now.leaders.now a.clauses.now.offs.now a.clauses.now.tags.now a.settings.dynamic a.settings.non_counted x a.i y c.loop-j.j) c.loop-j.invariant.1 k in
     record {
-      offs_len = omega (arith, count-le (member a.leaders.now a.i) c.loop-j.j);
+      j_bound = omega (arith, count-le (member a.clauses.now.leaders.now a.i) c.loop-j.j);
       j_in_bounds = gather-room _ c.loop-j.invariant.2 c.loop-j-test.true m;
     }
 
@@ -28,8 +28,8 @@ pub loop-j-preserved : goal.loop-j-preserved
 loop-j-preserved c =
     let a = c.args in
     let w = c.put_choice-q in
-    let k : c.loop-j.q - a.p ≡ count_to (member a.leaders.now a.i) c.loop-j.j = omega (arith, c.loop-j.invariant.2.grown.next, length-members a.leaders.now a.offs.now a.tags.now a.dynamic a.default a.i c.loop-j.j) in
-    let m = ap₂ (λ (x y : ℕ). choice_at a.leaders.now a.offs.now a.tags.now a.dynamic a.default x a.i y c.loop-j.j) c.loop-j.invariant.1 k in (
+    let k : c.loop-j.q - a.p ≡ count_to (member a.clauses.now.leaders.now a.i) c.loop-j.j = omega (arith, c.loop-j.invariant.2.grown.next, length-members a.clauses.now.leaders.now a.clauses.now.offs.now a.clauses.now.tags.now a.settings.dynamic a.settings.non_counted a.i c.loop-j.j) in
+    let m = ap₂ (λ (x y : ℕ). choice_at a.clauses.now.leaders.now a.clauses.now.offs.now a.clauses.now.tags.now a.settings.dynamic a.settings.non_counted x a.i y c.loop-j.j) c.loop-j.invariant.1 k in (
       refl,
       c.loop-j.invariant.1,
       gather-more w.new.index w.result _ c.loop-j.invariant.2 c.loop-j-test.true m w.auto.index w.ensures,

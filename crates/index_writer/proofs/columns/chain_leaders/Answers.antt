@@ -1,5 +1,5 @@
 -- The leaders of the first j clauses stand, and those that lead are in their buckets. Assumes nothing.
-use mathlib.Core.Path.{refl, sym, ◌∙◌}
+use mathlib.Core.Path.{sym, ◌∙◌}
 use native.Mathlib.Omega.{arith}
 use borrow.Author.Rules.{rules}
 use lib.ListN.{length, get_or-replicate}
@@ -12,25 +12,24 @@ use Rattle.index_writer.proofs.columns.chain_leaders.Goals as goal
 
 pub loop-j-init : goal.loop-j-init
 loop-j-init c = let s = c.args in
-    let h = s.heads.now in
-    let b = s.bits.now in
+    let h = s.keys.now.heads.now in
+    let b = s.keys.now.bits.now in
     let l = length-leaders h b (length h) in
-    (refl, l, fill_start (leaders_to h b (length h)) s.leaders.now (omega arith), refl, refl, chained-none (leads_in h b) _ _ (λ d k. get_or-replicate 1021 d 0 0 k))
+    (l, fill_start (leaders_to h b (length h)) s.leaders.now (omega arith), chained-none (leads_in h b) _ _ (λ d k. get_or-replicate 1021 d 0 0 k))
 
 pub next_leader-requires : goal.next_leader-requires
 next_leader-requires c = let l = c.loop-j in
     record {
       j_in_bounds = search rules;
-      firsts_len = (l.invariant.3, l.invariant.4);
-      chained = l.invariant.5;
+      chained = l.invariant.2;
     }
 
 pub loop-j-preserved : goal.loop-j-preserved
 loop-j-preserved c = let n = c.next_leader in
     let l = c.loop-j in
     let t = c.loop-j-test.true in
-    (refl, l.invariant.1, fill_more _ 0 l.invariant.2 (omega arith) (get_or-leaders _ _ _ _ t ∙ sym n.ensures.value), search rules, search rules, n.ensures.chained_2)
+    (l.invariant.0, fill_more _ 0 l.invariant.1 (omega arith) (get_or-leaders _ _ _ _ t ∙ sym n.ensures.value), n.ensures.chained_2)
 
 pub returns : goal.returns
 returns c = let l = c.loop-j in
-    fill-whole l.invariant.2 (omega arith) (omega arith)
+    fill-whole l.invariant.1 (omega arith) (omega arith)

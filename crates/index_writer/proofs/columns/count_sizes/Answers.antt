@@ -1,5 +1,5 @@
 -- The sizes by the first j clauses stand. Assumes nothing.
-use mathlib.Core.Path.{◌≡◌, refl, ap, ◌∙◌}
+use mathlib.Core.Path.{◌≡◌, ap, ◌∙◌}
 use Prim.Native.Nat.{ℕ, ◌+◌, ◌≤◌, ◌<◌}
 use native.Mathlib.Omega.{arith}
 use lib.ListN.{length, get_or, replicate, length-set, length-replicate}
@@ -9,10 +9,9 @@ use Rattle.index_writer.proofs.columns.count_sizes.Goals as goal
 
 pub loop-j-init : goal.loop-j-init
 loop-j-init c =
-    let k = c.zeros in
     let n : ℕ = length c.args.leaders.now in
-    let e : k.new.column ≡ replicate n 0 = k.ensures ∙ ap (λ (m : ℕ). replicate m 0) c.requires.sizes_len.0 in
-    (refl, ap length e ∙ length-replicate n 0, omega arith, e ∙ sizes-none c.args.leaders.now n)
+    let e : c.fill.new.self ≡ replicate n 0 = c.fill.ensures.after (λ y e. e) ∙ ap (λ (m : ℕ). replicate m 0) c.requires.sizes_len.0 in
+    (ap length e ∙ length-replicate n 0, e ∙ sizes-none c.args.leaders.now n)
 
 pub offset_bounds-sizes-i : goal.offset_bounds-sizes-i
 offset_bounds-sizes-i c =
@@ -28,7 +27,7 @@ pub overflow_add-sizes : goal.overflow_add-sizes
 overflow_add-sizes c =
     let p : get_or c.args.leaders.now c.loop-j.j 0 < length c.args.leaders.now = c.requires.numbers_below c.loop-j.j (search rules) in
     let q : get_or c.loop-j.sizes (get_or c.args.leaders.now c.loop-j.j 0) 0 ≤ c.loop-j.j =
-    rw c.loop-j.invariant.3 (sizes-small c.args.leaders.now _ c.loop-j.j (get_or c.args.leaders.now c.loop-j.j 0) (omega arith)) in
+    rw c.loop-j.invariant.1 (sizes-small c.args.leaders.now _ c.loop-j.j (get_or c.args.leaders.now c.loop-j.j 0) (omega arith)) in
     omega arith
 
 pub bounds-sizes-i-in-loop-j : goal.bounds-sizes-i-in-loop-j
@@ -40,13 +39,11 @@ pub loop-j-preserved : goal.loop-j-preserved
 loop-j-preserved c =
     let p : get_or c.args.leaders.now c.loop-j.j 0 < length c.args.leaders.now = c.requires.numbers_below c.loop-j.j (search rules) in
     let m : ℕ = get_or c.args.leaders.now c.loop-j.j 0 in (
-      c.loop-j.invariant.0,
-      length-set c.loop-j.sizes m (get_or c.loop-j.sizes m 0 + 1) ∙ c.loop-j.invariant.1,
-      omega arith,
-      rw c.loop-j.invariant.3 (sizes-more c.args.leaders.now _ c.loop-j.j (omega arith)),
+      length-set c.loop-j.sizes m (get_or c.loop-j.sizes m 0 + 1) ∙ c.loop-j.invariant.0,
+      rw c.loop-j.invariant.1 (sizes-more c.args.leaders.now _ c.loop-j.j (omega arith)),
     )
 
 pub returns : goal.returns
 returns c = let l = c.loop-j in
     let e : l.j ≡ length c.args.leaders.now = omega arith in
-    l.invariant.3 ∙ sizes-all _ _ _ e
+    l.invariant.1 ∙ sizes-all _ _ _ e

@@ -10,7 +10,6 @@ use Rattle.index_writer.proofs.columns.fill_columns.Goals as goal
 pub read_keys-requires : goal.read_keys-requires
 read_keys-requires c =
     record {
-      starts_value = c.requires.starts_value;
       all_known = c.requires.all_known;
       le_a = c.requires.le_a;
       offs_len_bound = omega (arith, c);
@@ -21,7 +20,7 @@ returns c =
     let a = c.args in
     let k = c.read_keys in
     let f = c.lead_columns in
-    let w = c.zeros in
-    columns_of (key_of class_of (records_of a.code.now) a.starts.now) a.arity a.offs.now a.a
-    f.new.leaders k.new.heads f.new.sizes w.new.column k.new.bits k.new.opens (length a.whole.now)
-    k.ensures.heads_after k.ensures.bits_after k.ensures.opens_after f.ensures.leaders_after f.ensures.sizes_after w.ensures (omega (arith, c))
+    let w = c.fill in
+    columns_of (key_of class_of (records_of a.program.now.code.now) a.program.now.starts.now) a.program.now.settings.arity a.offs.now a.a
+    f.new.leaders k.new.heads f.new.sizes w.new.self k.new.bits k.new.opens (length a.whole.now)
+    k.ensures.heads_after k.ensures.bits_after k.ensures.opens_after f.ensures.leaders_after f.ensures.sizes_after (w.ensures.after (λ y e. e)) (omega (arith, c))

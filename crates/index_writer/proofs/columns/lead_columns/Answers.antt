@@ -9,5 +9,5 @@ count_sizes-requires c =
     let f = c.find_leaders in
     record {
       sizes_len = omega (arith, c.requires, f.auto.leaders);
-      numbers_below = leaders-below c.args.heads.now c.args.bits.now f.new.leaders (length c.args.heads.now) f.ensures;
+      numbers_below = leaders-below c.args.keys.now.heads.now c.args.keys.now.bits.now f.new.leaders (length c.args.keys.now.heads.now) f.ensures;
     }

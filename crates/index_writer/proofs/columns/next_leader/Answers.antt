@@ -11,7 +11,7 @@ chained_leader-leader-requires c =
     let b = c.bucket_of-bucket.ensures in
     record {
       j_in_bounds = c.requires.j_in_bounds;
-      bucket_value = (b.0, omega (arith, b.1, c.requires.firsts_len), omega (arith, c.requires));
+      bucket_value = b;
       chained = c.requires.chained;
     }
 
@@ -23,7 +23,7 @@ returns-then-leader-own c =
     let e = c.if-leader-own.true in record {
       value = c.chained_leader-leader.ensures;
       chained_2 = rw (p.ensures.firsts_after, p.ensures.links_after)
-          (leader-pushed _ _ _ _ _ c.requires.chained _ b.0 (omega (arith, b.1, c.requires.firsts_len)) (omega (arith, c.requires)) (sym c.chained_leader-leader.ensures ∙ e));
+          (leader-pushed _ _ _ _ _ c.requires.chained _ b.0 (omega (arith, b.1)) (omega arith) (sym c.chained_leader-leader.ensures ∙ e));
     }
 
 pub returns-else-leader-own : goal.returns-else-leader-own

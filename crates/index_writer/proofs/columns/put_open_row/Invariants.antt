@@ -1,5 +1,4 @@
 use mathlib.Core.Path.{◌≡◌}
-use Prim.Native.Nat.{◌-◌}
 use lib.ListN.{length}
 use Rattle.records.proofs.Filled.{Filled}
 use Rattle.index_writer.specs.Choices.{open_numbers}
@@ -7,6 +6,3 @@ use Rattle.index_writer.proofs.columns.put_open_row.Given as goal
 
 abbrev pub invariant-loop-b : goal.invariant-loop-b
 invariant-loop-b l = (l.n ≡ l.arity) × (length (open_numbers l.heads l.arity) ≡ 32) × Filled (open_numbers l.heads l.arity) l.initial.opens l.opens l.b
-
-abbrev pub decreases-loop-b : goal.decreases-loop-b
-decreases-loop-b l = 32 - l.b

@@ -1,5 +1,5 @@
 use mathlib.Core.Path.{◌≡◌}
-use Prim.Native.Nat.{◌+◌, ◌-◌}
+use Prim.Native.Nat.{◌+◌}
 use lib.ListN.{length}
 use lib.Seq.{slice}
 use Rattle.records.specs.Records.{records_of}
@@ -11,6 +11,3 @@ use Rattle.index_writer.proofs.columns.read_choices.Given as goal
 abbrev pub invariant-loop-i : goal.invariant-loop-i
 invariant-loop-i l = let S = slice l.q (l.q + l.m) (records_of l.index) in
     (length (words_of S) ≡ l.m) × (length (subs_of S) ≡ l.m) × Filled (words_of S) l.initial.offs l.offs l.i × Filled (subs_of S) l.initial.tags l.tags l.i
-
-abbrev pub decreases-loop-i : goal.decreases-loop-i
-decreases-loop-i l = l.m - l.i

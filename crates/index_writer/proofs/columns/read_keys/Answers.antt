@@ -1,5 +1,5 @@
 -- The keys and rows of the first i clauses stand. Assumes nothing.
-use mathlib.Core.Path.{refl, sym, ◌∙◌}
+use mathlib.Core.Path.{sym, ◌∙◌}
 use Prim.Native.Nat.{◌+◌, ◌-◌, ◌*◌}
 use native.Mathlib.Omega.{arith}
 use Rattle.records.specs.Records.{records_of}
@@ -15,15 +15,14 @@ pub loop-i-init : goal.loop-i-init
 loop-i-init c =
     let a = c.args in
     let n = c.requires.offs_len_bound in
-    let K = key_of class_of (records_of a.code.now) a.starts.now in
+    let K = key_of class_of (records_of a.program.now.code.now) a.program.now.starts.now in
     let h = length-heads K a.offs.now a.a in
     let b = length-bits K a.offs.now a.a in
-    (refl, h, b, fill_start _ a.heads.now (column-room h n.1), fill_start _ a.bits.now (column-room b n.2), rows_start K a.arity a.offs.now a.opens.now)
+    (h, b, fill_start _ a.heads.now (column-room h n.1), fill_start _ a.bits.now (column-room b n.2), rows_start K a.program.now.settings.arity a.offs.now a.opens.now)
 
 pub read_row-k-requires : goal.read_row-k-requires
 read_row-k-requires c =
     record {
-      starts_value = c.requires.starts_value;
       offset_value = c.requires.all_known c.loop-i.i c.loop-i-test.true;
       le_a = (c.requires.le_a.0, c.requires.le_a.1, search rules);
     }
@@ -32,21 +31,20 @@ pub loop-i-preserved : goal.loop-i-preserved
 loop-i-preserved c = let l = c.loop-i in
     let t = c.loop-i-test.true in
     let a = c.args in
-    let K = key_of class_of (records_of a.code.now) a.starts.now in
+    let K = key_of class_of (records_of a.program.now.code.now) a.program.now.starts.now in
     let k = c.read_row-k in (
-      refl,
+      l.invariant.0,
       l.invariant.1,
-      l.invariant.2,
-      fill_more _ 0 l.invariant.3 (column-in l.invariant.1 t) (get_or-heads K a.offs.now a.a l.i t ∙ sym k.ensures.head_value),
-      fill_more _ 0 l.invariant.4 (column-in l.invariant.2 t) (get_d_bits K a.offs.now a.a l.i t ∙ sym k.ensures.bits_value),
-      rows_more (32 * l.i + 32 - 32 * l.i) k.new.opens l.invariant.5 (row_room t c.requires.offs_len_bound.3) (row-wide l.i) k.ensures.opens_after,
+      fill_more _ 0 l.invariant.2 (column-in l.invariant.0 t) (get_or-heads K a.offs.now a.a l.i t ∙ sym k.ensures.head_value),
+      fill_more _ 0 l.invariant.3 (column-in l.invariant.1 t) (get_d_bits K a.offs.now a.a l.i t ∙ sym k.ensures.bits_value),
+      rows_more (32 * l.i + 32 - 32 * l.i) k.new.opens l.invariant.4 (row_room t c.requires.offs_len_bound.3) (row-wide l.i) k.ensures.opens_after,
     )
 
 pub returns : goal.returns
 returns c = let l = c.loop-i in
     let n = c.requires.offs_len_bound in
     let t = c.loop-i-test.false in record {
-      heads_after = fill-whole l.invariant.3 (n.1 ∙ sym l.invariant.1) (column-done l.invariant.1 t);
-      bits_after = fill-whole l.invariant.4 (n.2 ∙ sym l.invariant.2) (column-done l.invariant.2 t);
-      opens_after = rows_end _ l.invariant.5 n.3 (omega (arith, t, l.invariant.3.within, l.invariant.1));
+      heads_after = fill-whole l.invariant.2 (n.1 ∙ sym l.invariant.0) (column-done l.invariant.0 t);
+      bits_after = fill-whole l.invariant.3 (n.2 ∙ sym l.invariant.1) (column-done l.invariant.1 t);
+      opens_after = rows_end _ l.invariant.4 n.3 (omega (arith, t, l.invariant.2.within, l.invariant.0));
     }

@@ -12,33 +12,37 @@ use Rattle.index_writer.proofs.columns.read_row.Goals as goal
 
 pub collect_opt_arg_index_keys-requires : goal.collect_opt_arg_index_keys-requires
 collect_opt_arg_index_keys-requires c =
-    let o = code_ok class_of c.args.arity c.args.code.now c.args.starts.now c.requires.starts_value in
+    let p = c.args.program.now in
+    let o = code_ok class_of p.settings.arity p.code.now p.starts.now p.checked in
     record {
-      starts_value = c.requires.starts_value;
       offset_value = c.requires.offset_value;
       arity_in_bounds = (o.arity-to, o.arity-to);
     }
 
 pub put_open_row-requires : goal.put_open_row-requires
 put_open_row-requires c =
-    let o = code_ok class_of c.args.arity c.args.code.now c.args.starts.now c.requires.starts_value in
+    let p = c.args.program.now in
+    let o = code_ok class_of p.settings.arity p.code.now p.starts.now p.checked in
     (search rules, omega (arith, o.arity-to), o.arity-to)
 
 pub bounds-heads-at : goal.bounds-heads-at
 bounds-heads-at c =
-    let o = code_ok class_of c.args.arity c.args.code.now c.args.starts.now c.requires.starts_value in
+    let p = c.args.program.now in
+    let o = code_ok class_of p.settings.arity p.code.now p.starts.now p.checked in
     omega (arith, o.arity-to)
 
 pub bounds-bits-at : goal.bounds-bits-at
 bounds-bits-at c =
-    let o = code_ok class_of c.args.arity c.args.code.now c.args.starts.now c.requires.starts_value in
+    let p = c.args.program.now in
+    let o = code_ok class_of p.settings.arity p.code.now p.starts.now p.checked in
     omega (arith, o.arity-to)
 
 pub returns : goal.returns
 returns c = let k = c.collect_opt_arg_index_keys in
     let a = c.args in
-    let rs = records_of a.code.now in record {
-      head_value = row_at head_of class_of rs a.starts.now a.offset a.arity _ _ a.a k.ensures.heads_after (omega arith) (omega arith);
-      bits_value = row_at bits_of class_of rs a.starts.now a.offset a.arity _ _ a.a k.ensures.bits_after (omega arith) (omega arith);
-      opens_after = c.put_open_row.ensures ∙ row_open class_of a.code.now a.starts.now a.offset a.arity _ _ c.requires.offset_value c.requires.starts_value k.ensures.heads_after;
+    let p = a.program.now in
+    let rs = records_of p.code.now in record {
+      head_value = row_at head_of class_of rs p.starts.now a.offset p.settings.arity _ _ a.a k.ensures.heads_after (omega arith) (omega arith);
+      bits_value = row_at bits_of class_of rs p.starts.now a.offset p.settings.arity _ _ a.a k.ensures.bits_after (omega arith) (omega arith);
+      opens_after = c.put_open_row.ensures ∙ row_open class_of p.code.now p.starts.now a.offset p.settings.arity _ _ c.requires.offset_value p.checked k.ensures.heads_after;
     }

@@ -1,5 +1,5 @@
 -- The leaders of the first j clauses stand. Assumes nothing.
-use mathlib.Core.Path.{refl, sym, ◌∙◌}
+use mathlib.Core.Path.{sym, ◌∙◌}
 use native.Mathlib.Omega.{arith}
 use lib.ListN.{length}
 use Rattle.records.proofs.Filled.{fill_start, fill_more}
@@ -9,15 +9,15 @@ use Rattle.index_writer.proofs.columns.search_leaders.Goals as goal
 
 pub loop-j-init : goal.loop-j-init
 loop-j-init c = let s = c.args in
-    let h = s.heads.now in
-    let b = s.bits.now in
+    let h = s.keys.now.heads.now in
+    let b = s.keys.now.bits.now in
     let l = length-leaders h b (length h) in
-    (refl, l, fill_start (leaders_to h b (length h)) s.leaders.now (omega arith))
+    (l, fill_start (leaders_to h b (length h)) s.leaders.now (omega arith))
 
 pub loop-j-preserved : goal.loop-j-preserved
 loop-j-preserved c = let l = c.loop-j in
-    (l.invariant.0, l.invariant.1, fill_more _ 0 l.invariant.2 (omega arith) (get_or-leaders _ _ _ _ c.loop-j-test.true ∙ sym c.leader_of.ensures))
+    (l.invariant.0, fill_more _ 0 l.invariant.1 (omega arith) (get_or-leaders _ _ _ _ c.loop-j-test.true ∙ sym c.leader_of.ensures))
 
 pub returns : goal.returns
 returns c = let l = c.loop-j in
-    fill-whole l.invariant.2 (omega arith) (omega arith)
+    fill-whole l.invariant.1 (omega arith) (omega arith)

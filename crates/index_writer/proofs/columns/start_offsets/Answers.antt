@@ -1,5 +1,5 @@
 -- The first i offsets stand. Assumes nothing.
-use mathlib.Core.Path.{◌≡◌, refl}
+use mathlib.Core.Path.{◌≡◌}
 use Prim.Native.Nat.{ℕ, suc}
 use native.Mathlib.Omega.{arith}
 use lib.ListN.{length, length-map}
@@ -13,7 +13,7 @@ pub loop-i-init : goal.loop-i-init
 loop-i-init c = let s = c.args.starts.now in
     let n : ℕ = length s in
     let l : length (offsets_of s) ≡ n = length-map s suc in
-    (refl, l, fill_start (offsets_of s) c.args.offs.now (omega arith))
+    (l, fill_start (offsets_of s) c.args.offs.now (omega arith))
 
 pub overflow_add-offs : goal.overflow_add-offs
 overflow_add-offs c =
@@ -22,8 +22,8 @@ overflow_add-offs c =
 pub loop-i-preserved : goal.loop-i-preserved
 loop-i-preserved c = let l = c.loop-i in
     let s = c.args.starts.now in
-    (refl, l.invariant.1, fill_more _ 0 l.invariant.2 (omega arith) (get_or-offsets s l.i (search rules)))
+    (l.invariant.0, fill_more _ 0 l.invariant.1 (omega arith) (get_or-offsets s l.i (search rules)))
 
 pub returns : goal.returns
 returns c = let l = c.loop-i in
-    fill-whole l.invariant.2 (omega arith) (omega arith)
+    fill-whole l.invariant.1 (omega arith) (omega arith)

@@ -4,10 +4,7 @@ use Rattle.indexing.specs.Columns.{dead_recs}
 use Rattle.index_writer.proofs.LineLaws.{length-dead}
 use Rattle.index_writer.proofs.later_tables.dead_room.Goals as goal
 
-pub returns : goal.returns
+pub returns-clause-by_index : goal.returns-clause-by_index
 unfolding dead_recs
-returns c = let a = c.args in
-    record {
-      by_index = λ offs. omega (arith, length-dead a.zeros.now a.opens.now 0 a.arg offs, c.count_open.ensures.value);
-      upper_bound = omega arith;
-    }
+returns-clause-by_index c = let a = c.args in
+    λ offs. omega (arith, length-dead a.clauses.now.leaders.now a.clauses.now.opens.now 0 a.arg offs, c.count_open.ensures.value)

@@ -16,10 +16,10 @@ use Rattle.index_writer.proofs.later_tables.put_dead_clause.Goals as goal
 -- clause j is dead, so it is to be written, and there is room for it
 dead : (t : Then-open_member)
     → let a = t.args in
-    cond (open_member a.leaders.now a.opens.now a.offs.now a.i a.b a.j) (rec_of 7 0 0 (get_or a.offs.now a.j 0) 0 ∷ []) [] ≡ rec_of 7 0 0 (get_or a.offs.now a.j 0) 0 ∷ []
+    cond (open_member a.clauses.now.leaders.now a.clauses.now.opens.now a.clauses.now.offs.now a.i a.b a.j) (rec_of 7 0 0 (get_or a.clauses.now.offs.now a.j 0) 0 ∷ []) [] ≡ rec_of 7 0 0 (get_or a.clauses.now.offs.now a.j 0) 0 ∷ []
 dead t = let a = t.args in
-    cond_yes _ (rec_of 7 0 0 (get_or a.offs.now a.j 0) 0 ∷ []) []
-    (sym (open-as a.leaders.now a.opens.now a.i a.b a.offs.now a.j) ∙ sym t.open_member.ensures ∙ t.if-open_member.true)
+    cond_yes _ (rec_of 7 0 0 (get_or a.clauses.now.offs.now a.j 0) 0 ∷ []) []
+    (sym (open-as a.clauses.now.leaders.now a.clauses.now.opens.now a.i a.b a.clauses.now.offs.now a.j) ∙ sym t.open_member.ensures ∙ t.if-open_member.true)
 
 room : (t : Then-open_member) → let a = t.args in a.q < length (records_of a.index.now)
 room t = one-room (dead t) t.requires.j_in_bounds
@@ -39,5 +39,5 @@ returns-then-open_member c =
 pub returns : goal.returns
 returns c = let a = c.args in
     puts_none a.index.now a.q
-    (cond_no _ (rec_of 7 0 0 (get_or a.offs.now a.j 0) 0 ∷ []) []
-    (sym (open-as a.leaders.now a.opens.now a.i a.b a.offs.now a.j) ∙ sym c.open_member.ensures ∙ c.if-open_member.false))
+    (cond_no _ (rec_of 7 0 0 (get_or a.clauses.now.offs.now a.j 0) 0 ∷ []) []
+    (sym (open-as a.clauses.now.leaders.now a.clauses.now.opens.now a.i a.b a.clauses.now.offs.now a.j) ∙ sym c.open_member.ensures ∙ c.if-open_member.false))

@@ -13,7 +13,6 @@ loop-j-init c = let a = c.args in
 pub put_dead_clause-q-requires : goal.put_dead_clause-q-requires
 put_dead_clause-q-requires c =
     record {
-      leaders_len_bound = c.requires.leaders_len_bound;
       le_b = omega arith;
       j_in_bounds = gather-room _ c.loop-j.invariant.1 c.loop-j-test.true refl;
     }

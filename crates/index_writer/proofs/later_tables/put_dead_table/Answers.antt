@@ -13,13 +13,13 @@ use Rattle.index_writer.proofs.later_tables.put_dead_table.Goals as goal
 -- all is left to write, and then the clauses
 begin : (s : Start)
     → let a = s.args in
-    let t = rec_of 4 0 a.b 0 0 ∷ dead_clauses a.leaders.now a.opens.now a.offs.now a.i a.b in
+    let t = rec_of 4 0 a.b 0 0 ∷ dead_clauses a.clauses.now.leaders.now a.clauses.now.opens.now a.clauses.now.offs.now a.i a.b in
     Left a.index.now a.p t a.p t a.index.now
 begin s = left-start s.args.index.now s.args.p _ _ refl s.requires.b_in_bounds
 
 after-record : (c : After-put)
     → let a = c.args in
-    let clauses = dead_clauses a.leaders.now a.opens.now a.offs.now a.i a.b in
+    let clauses = dead_clauses a.clauses.now.leaders.now a.clauses.now.opens.now a.clauses.now.offs.now a.i a.b in
     Left a.index.now a.p (rec_of 4 0 a.b 0 0 ∷ clauses) (a.p + 1) clauses c.put.new.index
 after-record c =
     left_one c.put.new.index _ _ (left-start c.args.index.now c.args.p _ _ refl c.requires.b_in_bounds) c.put.auto.index c.put.ensures
@@ -34,7 +34,6 @@ overflow_add-p c =
 pub put_dead_clauses-requires : goal.put_dead_clauses-requires
 put_dead_clauses-requires c =
     record {
-      leaders_len_bound = c.requires.leaders_len_bound;
       le_b = c.requires.le_b;
       b_in_bounds = (after-record (goal.at.put_dead_clauses-requires c).After-put).room;
     }

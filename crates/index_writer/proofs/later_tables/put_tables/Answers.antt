@@ -13,7 +13,6 @@ loop-t-init c = let a = c.args in
 pub put_table-q-requires : goal.put_table-q-requires
 put_table-q-requires c =
     record {
-      leaders_len_bound = c.requires.leaders_len_bound;
       le_b = omega arith;
       b_in_bounds = gather-room _ c.loop-t.invariant c.loop-t-test.true refl;
     }

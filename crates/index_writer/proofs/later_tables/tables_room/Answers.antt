@@ -12,12 +12,6 @@ use Rattle.index_writer.proofs.later_tables.tables_room.Goals as goal
 pub loop-t-init : goal.loop-t-init
 loop-t-init c = (omega arith, omega arith, λ offs. sym (ap length (list-none _)))
 
-pub table_room-room-requires : goal.table_room-room-requires
-table_room-room-requires c = record {
-  leaders_len_bound = omega arith;
-  le_b = omega arith;
-}
-
 pub loop-t-preserved : goal.loop-t-preserved
 loop-t-preserved c =
     let a = c.args in (
@@ -27,15 +21,12 @@ loop-t-preserved c =
         arith,
         c.loop-t.invariant.2 offs,
         c.table_room-room.ensures.by_index offs,
-        length_more (λ t. table_at a.leaders.now a.opens.now offs a.mask a.extensible a.i (a.b + t)) c.loop-t.t,
+        length_more (λ t. table_at a.clauses.now.leaders.now a.clauses.now.opens.now offs a.settings.mask a.settings.extensible a.i (a.b + t)) c.loop-t.t,
       ),
     )
 
-pub returns : goal.returns
+pub returns-clause-by_index : goal.returns-clause-by_index
 unfolding tables_at
-returns c =
+returns-clause-by_index c =
     let a = c.args in
-    let e : c.loop-t.t ≡ a.k = omega arith in record {
-      by_index = λ offs. c.loop-t.invariant.2 offs ∙ ap (λ (x : ℕ). length (list_to (λ t. table_at a.leaders.now a.opens.now offs a.mask a.extensible a.i (a.b + t)) x)) e;
-      upper_bound = omega arith;
-    }
+    let e : c.loop-t.t ≡ a.k = omega arith in λ offs. c.loop-t.invariant.2 offs ∙ ap (λ (x : ℕ). length (list_to (λ t. table_at a.clauses.now.leaders.now a.clauses.now.opens.now offs a.settings.mask a.settings.extensible a.i (a.b + t)) x)) e

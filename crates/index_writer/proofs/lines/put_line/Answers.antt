@@ -13,32 +13,28 @@ use Rattle.index_writer.proofs.lines.put_line.Goals as goal
 pub put-requires : goal.put-requires
 put-requires c =
     let a = c.args in
-    let e = line-parts a.leaders.now a.opens.now a.offs.now a.tags.now a.settings a.arg a.i [] a.number in
+    let e = line-parts a.clauses.now.leaders.now a.clauses.now.opens.now a.clauses.now.offs.now a.clauses.now.tags.now a.switched.settings a.switched.arg a.i [] a.number in
     omega (arith, ap length e, c)
 
 pub overflow_add-p : goal.overflow_add-p
 overflow_add-p c =
     let a = c.args in
-    let e = line-parts a.leaders.now a.opens.now a.offs.now a.tags.now a.settings a.arg a.i [] a.number in
+    let e = line-parts a.clauses.now.leaders.now a.clauses.now.opens.now a.clauses.now.offs.now a.clauses.now.tags.now a.switched.settings a.switched.arg a.i [] a.number in
     omega (arith, ap length e, c, length-records_of a.index.now)
 
 pub put_rest-requires : goal.put_rest-requires
 put_rest-requires c =
     let a = c.args in
-    let e = line-parts a.leaders.now a.opens.now a.offs.now a.tags.now a.settings a.arg a.i [] a.number in
-    record {
-      leaders_len_bound = omega (arith, c);
-      arg_le_arity = omega (arith, c);
-      i_in_bounds = omega (arith, ap length e, c, c.put);
-    }
+    let e = line-parts a.clauses.now.leaders.now a.clauses.now.opens.now a.clauses.now.offs.now a.clauses.now.tags.now a.switched.settings a.switched.arg a.i [] a.number in
+    omega (arith, ap length e, c, c.put)
 
 pub returns : goal.returns
 returns c =
     let a = c.args in
     let w = c.put in
     let v = c.put_rest in
-    let rest = rest_of a.leaders.now a.opens.now a.offs.now a.tags.now a.settings a.arg a.i in
-    let e = line-parts a.leaders.now a.opens.now a.offs.now a.tags.now a.settings a.arg a.i [] a.number in
+    let rest = rest_of a.clauses.now.leaders.now a.clauses.now.opens.now a.clauses.now.offs.now a.clauses.now.tags.now a.switched.settings a.switched.arg a.i in
+    let e = line-parts a.clauses.now.leaders.now a.clauses.now.opens.now a.clauses.now.offs.now a.clauses.now.tags.now a.switched.settings a.switched.arg a.i [] a.number in
     let m = ap (λ (x : ℕ). ([] ++ (rec_of 1 x 0 a.number 0 ∷ [])) ++ rest) c.mode_of-sub.ensures ∙ e in
     let g0 = grow-start a.index.now a.p (omega (arith, c)) in
     let g1 = grow-one w.new.index (rec_of 1 c.mode_of-sub.result 0 a.number 0) g0 (omega (arith, c, ap length e)) w.auto.index w.ensures in

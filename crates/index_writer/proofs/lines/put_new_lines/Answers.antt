@@ -27,8 +27,8 @@ after-lists : (c : After-put_list_line-q)
     → let a = c.args in
     let x = c.list_lines.result in
     let y = c.count_lines.result in
-    Left a.index.now a.p (new_lines_recs a.leaders.now a.heads.now a.opens.now a.offs.now a.tags.now a.settings a.arg a.number) c.put_list_line-q.result
-    (group_lines a.leaders.now a.heads.now a.opens.now a.offs.now a.tags.now a.settings a.arg 3 (a.number + x) ++ group_lines a.leaders.now a.heads.now a.opens.now a.offs.now a.tags.now a.settings a.arg 1 (a.number + x + y)) c.put_list_line-q.new.index
+    Left a.index.now a.p (new_lines_recs a.columns.now.clauses.leaders.now a.columns.now.heads.now a.columns.now.clauses.opens.now a.columns.now.clauses.offs.now a.columns.now.clauses.tags.now a.switched.settings a.switched.arg a.number) c.put_list_line-q.result
+    (group_lines a.columns.now.clauses.leaders.now a.columns.now.heads.now a.columns.now.clauses.opens.now a.columns.now.clauses.offs.now a.columns.now.clauses.tags.now a.switched.settings a.switched.arg 3 (a.number + x) ++ group_lines a.columns.now.clauses.leaders.now a.columns.now.heads.now a.columns.now.clauses.opens.now a.columns.now.clauses.offs.now a.columns.now.clauses.tags.now a.switched.settings a.switched.arg 1 (a.number + x + y)) c.put_list_line-q.new.index
 after-lists c =
     let w = c.put_list_line-q in
     left-run w.new.index w.result _ _
@@ -40,43 +40,34 @@ after-structures : (c : After-put_group-q)
     → let a = c.args in
     let x = c.list_lines.result in
     let y = c.count_lines.result in
-    Left a.index.now a.p (new_lines_recs a.leaders.now a.heads.now a.opens.now a.offs.now a.tags.now a.settings a.arg a.number) c.put_list_line-q.result
-    (group_lines a.leaders.now a.heads.now a.opens.now a.offs.now a.tags.now a.settings a.arg 3 (a.number + x) ++ group_lines a.leaders.now a.heads.now a.opens.now a.offs.now a.tags.now a.settings a.arg 1 (a.number + x + y)) c.put_list_line-q.new.index
-    → Left a.index.now a.p (new_lines_recs a.leaders.now a.heads.now a.opens.now a.offs.now a.tags.now a.settings a.arg a.number) c.put_group-q.result
-    (group_lines a.leaders.now a.heads.now a.opens.now a.offs.now a.tags.now a.settings a.arg 1 (a.number + x + y)) c.put_group-q.new.index
+    Left a.index.now a.p (new_lines_recs a.columns.now.clauses.leaders.now a.columns.now.heads.now a.columns.now.clauses.opens.now a.columns.now.clauses.offs.now a.columns.now.clauses.tags.now a.switched.settings a.switched.arg a.number) c.put_list_line-q.result
+    (group_lines a.columns.now.clauses.leaders.now a.columns.now.heads.now a.columns.now.clauses.opens.now a.columns.now.clauses.offs.now a.columns.now.clauses.tags.now a.switched.settings a.switched.arg 3 (a.number + x) ++ group_lines a.columns.now.clauses.leaders.now a.columns.now.heads.now a.columns.now.clauses.opens.now a.columns.now.clauses.offs.now a.columns.now.clauses.tags.now a.switched.settings a.switched.arg 1 (a.number + x + y)) c.put_list_line-q.new.index
+    → Left a.index.now a.p (new_lines_recs a.columns.now.clauses.leaders.now a.columns.now.heads.now a.columns.now.clauses.opens.now a.columns.now.clauses.offs.now a.columns.now.clauses.tags.now a.switched.settings a.switched.arg a.number) c.put_group-q.result
+    (group_lines a.columns.now.clauses.leaders.now a.columns.now.heads.now a.columns.now.clauses.opens.now a.columns.now.clauses.offs.now a.columns.now.clauses.tags.now a.switched.settings a.switched.arg 1 (a.number + x + y)) c.put_group-q.new.index
 after-structures c L = let w = c.put_group-q in left-run w.new.index w.result _ _ L w.ensures.0 w.auto.index w.ensures.1
 
 pub put_list_line-q-requires : goal.put_list_line-q-requires
 put_list_line-q-requires c =
-    let n = c.requires.le_arg in
     record {
-      leaders_len_bound = c.requires.leaders_len_bound;
-      sizes_value = c.requires.sizes_value;
-      arg_le_arity = (n.1, n.2, number-first n.3);
+      number_bound = number-first c.requires.number_bound;
       number_in_bounds = left-room _ _
           (begin _ _ _ _ _ _ _ _ c.args.index.now c.args.p c.list_lines.ensures.value c.count_lines.ensures.value c.requires.number_in_bounds);
     }
 
 pub put_group-q-requires : goal.put_group-q-requires
 put_group-q-requires c =
-    let n = c.requires.le_arg in
-    let small = number-next c.requires.leaders_len_bound.0 n.3 c.list_lines.ensures.upper_bound in
+    let small = number-next c.args.columns.now.clauses.few c.requires.number_bound c.list_lines.ensures.upper_bound in
     record {
-      leaders_len_bound = c.requires.leaders_len_bound;
-      sizes_value = c.requires.sizes_value;
-      arg_le_arity = (n.1, n.2, small);
+      first_bound = small;
       first_in_bounds = left-room _ _ (after-lists (goal.at.put_group-q-requires c).After-put_list_line-q);
     }
 
 pub put_group-requires : goal.put_group-requires
 put_group-requires c =
     let g = goal.at.put_group-requires c in
-    let n = c.requires.le_arg in
-    let small = number-last c.requires.leaders_len_bound.0 n.3 c.list_lines.ensures.upper_bound c.count_lines.ensures.upper_bound in
+    let small = number-last c.args.columns.now.clauses.few c.requires.number_bound c.list_lines.ensures.upper_bound c.count_lines.ensures.upper_bound in
     record {
-      leaders_len_bound = c.requires.leaders_len_bound;
-      sizes_value = c.requires.sizes_value;
-      arg_le_arity = (n.1, n.2, small);
+      first_bound = small;
       first_in_bounds = (after-structures g.After-put_group-q (after-lists g.After-put_list_line-q)).room;
     }
 

@@ -5,23 +5,13 @@ use native.Mathlib.Omega.{arith}
 use lib.ListN.{length}
 use Rattle.indexing.specs.Upto.{list_to}
 use Rattle.indexing.specs.Columns.{lines_to, group_lines}
+use Rattle.indexing_iter.specs.Groups.{group_number}
 use Rattle.index_writer.proofs.Upto.{list-none}
 use Rattle.index_writer.proofs.LineLaws.{line_in, length_more}
 use Rattle.index_writer.proofs.rooms.group_room.Goals as goal
 
 pub loop-i-init : goal.loop-i-init
 loop-i-init c = (refl, omega arith, omega arith, λ offs tags number. sym (ap length (list-none _)))
-
-pub line_room_at-room-requires : goal.line_room_at-room-requires
-line_room_at-room-requires c =
-    record {
-      leaders_len_bound = omega (arith, c);
-      sizes_value = c.requires.sizes_value;
-      arg_le_arity = omega (arith, c, c.loop-i);
-    }
-
-pub overflow_add-room : goal.overflow_add-room
-overflow_add-room c = omega (arith, c.line_room_at-room, c.loop-i, c)
 
 pub loop-i-preserved : goal.loop-i-preserved
 loop-i-preserved c =
@@ -33,8 +23,8 @@ loop-i-preserved c =
       λ offs tags number. omega (
         arith,
         c.loop-i.invariant.3 offs tags number,
-        c.line_room_at-room.ensures.by_index offs tags (number + lines_to a.leaders.now a.heads.now a.settings.dynamic a.g i),
-        length_more (line_in a.leaders.now a.heads.now a.opens.now offs tags a.settings a.arg a.g number) i,
+        c.line_room_at-room.ensures.by_index offs tags (number + lines_to a.columns.now.clauses.leaders.now a.columns.now.heads.now a.switched.settings.dynamic (group_number a.g) i),
+        length_more (line_in a.columns.now.clauses.leaders.now a.columns.now.heads.now a.columns.now.clauses.opens.now offs tags a.switched.settings a.switched.arg (group_number a.g) number) i,
       ),
     )
 
@@ -42,8 +32,8 @@ pub returns : goal.returns
 unfolding group_lines
 returns c =
     let a = c.args in
-    let e : c.loop-i.i ≡ length a.leaders.now = omega arith in
+    let e : c.loop-i.i ≡ length a.columns.now.clauses.leaders.now = omega arith in
     record {
-      by_index = λ offs tags number. c.loop-i.invariant.3 offs tags number ∙ ap (λ (x : ℕ). length (list_to (line_in a.leaders.now a.heads.now a.opens.now offs tags a.settings a.arg a.g number) x)) e;
+      by_index = λ offs tags number. c.loop-i.invariant.3 offs tags number ∙ ap (λ (x : ℕ). length (list_to (line_in a.columns.now.clauses.leaders.now a.columns.now.heads.now a.columns.now.clauses.opens.now offs tags a.switched.settings a.switched.arg (group_number a.g) number) x)) e;
       upper_bound = omega (arith, c, c.loop-i);
     }

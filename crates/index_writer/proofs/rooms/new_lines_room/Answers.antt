@@ -7,14 +7,11 @@ use Rattle.indexing.specs.Columns.{lines_to, list_lines}
 use Rattle.index_writer.proofs.LineLaws.{length-parts}
 use Rattle.index_writer.proofs.rooms.new_lines_room.Goals as goal
 
-pub returns : goal.returns
-returns c = let a = c.args in record {
-  by_index = λ offs tags number.
-      let structures : ℕ = number + list_lines a.leaders.now a.heads.now a.settings.dynamic in
-      let literals : ℕ = structures + lines_to a.leaders.now a.heads.now a.settings.dynamic 3 (length a.leaders.now) in
-      let l = c.list_room-lists.ensures.by_index offs tags number in
-      let g3 = c.group_room-structures.ensures.by_index offs tags structures in
-      let g1 = c.group_room-literals.ensures.by_index offs tags literals in
-      omega (arith, l, g3, g1, length-parts a.leaders.now a.heads.now a.opens.now offs tags a.settings a.arg number structures literals refl refl);
-  upper_bound = omega arith;
-}
+pub returns-clause-by_index : goal.returns-clause-by_index
+returns-clause-by_index c = let a = c.args in λ offs tags number.
+    let structures : ℕ = number + list_lines a.columns.now.clauses.leaders.now a.columns.now.heads.now a.switched.settings.dynamic in
+    let literals : ℕ = structures + lines_to a.columns.now.clauses.leaders.now a.columns.now.heads.now a.switched.settings.dynamic 3 (length a.columns.now.clauses.leaders.now) in
+    let l = c.list_room-lists.ensures.by_index offs tags number in
+    let g3 = c.group_room-structures.ensures.by_index offs tags structures in
+    let g1 = c.group_room-literals.ensures.by_index offs tags literals in
+    omega (arith, l, g3, g1, length-parts a.columns.now.clauses.leaders.now a.columns.now.heads.now a.columns.now.clauses.opens.now offs tags a.switched.settings a.switched.arg number structures literals refl refl)

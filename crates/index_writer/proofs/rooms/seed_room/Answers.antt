@@ -5,8 +5,5 @@ use lib.ListN.{length}
 use Rattle.index_writer.proofs.LineLaws.{seed-parts}
 use Rattle.index_writer.proofs.rooms.seed_room.Goals as goal
 
-pub returns : goal.returns
-returns c = let a = c.args in record {
-  by_index = λ offs tags. omega (arith, ap length (seed-parts a.zeros.now a.opens.now offs tags a.settings a.arg), c.rest_room.ensures.by_index offs tags);
-  upper_bound = omega arith;
-}
+pub returns-clause-by_index : goal.returns-clause-by_index
+returns-clause-by_index c = let a = c.args in λ offs tags. omega (arith, ap length (seed-parts a.clauses.now.leaders.now a.clauses.now.opens.now offs tags a.switched.settings a.switched.arg), c.rest_room.ensures.by_index offs tags)

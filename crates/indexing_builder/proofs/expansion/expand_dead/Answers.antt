@@ -7,17 +7,17 @@ use lib.ListN.{length}
 use Rattle.records.specs.declared.Rec.{Rec}
 use Rattle.records.proofs.MoveLaws.{splice-steps}
 use Rattle.records.proofs.Grown.{wrote_none}
-use Rattle.indexing.specs.Columns.{dead_recs}
+use Rattle.index_writer.specs.Written.{dead_by}
 use Rattle.indexing_builder.proofs.ExpansionLaws.{answer-none, answer-stored, dead-some}
 use Rattle.indexing_builder.proofs.expansion.expand_dead.Goals.{After-dead_room-more}
 use Rattle.indexing_builder.proofs.expansion.expand_dead.Goals as goal
 
 -- its room
-room : (c : After-dead_room-more) → let a = c.args in let dead : List Rec = dead_recs a.zeros.now a.opens.now a.offs.now a.t.arg in
+room : (c : After-dead_room-more) → let a = c.args in let dead : List Rec = dead_by a.whole.now a.t.arg in
     (c.dead_room-more.result ≡ length dead) × (1 ≤ length dead)
 room c =
     let a = c.args in
-    (c.dead_room-more.ensures.by_index a.offs.now, dead-some a.zeros.now a.opens.now a.offs.now a.t.arg)
+    (c.dead_room-more.ensures.by_index a.whole.now.offs.now, dead-some a.whole.now.leaders.now a.whole.now.opens.now a.whole.now.offs.now a.t.arg)
 
 pub overflow_sub-more : goal.overflow_sub-more
 overflow_sub-more c = omega (arith, room (goal.at.overflow_sub-more c).After-dead_room-more)
@@ -28,7 +28,6 @@ returns-then-t-total c = record { answer = answer-none c.args.t.capacity _ _ (om
 pub put_dead-requires : goal.put_dead-requires
 put_dead-requires c =
     record {
-      zeros_len_bound = c.requires.zeros_len_bound;
       le_arg = omega (arith, c);
       arg_in_bounds = omega (arith, c, room (goal.at.put_dead-requires c).After-dead_room-more, c.if-t-total, c.open_gap.ensures.count);
     }
@@ -41,8 +40,8 @@ returns c =
     let o = c.open_gap in
     let w = c.put_dead in
     record {
-      answer = answer-stored a.t.capacity (a.t.count + k) a.t.lines (omega (arith, r)) (omega arith) c.if-t-total.false;
+      answer = answer-stored a.t.capacity _ (omega (arith, r)) (omega arith) c.if-t-total.false;
       leaves =
-          splice-steps a.index.now o.new.index w.new.index w.new.index a.t.at a.t.count k (dead_recs a.zeros.now a.opens.now a.offs.now a.t.arg) []
+          splice-steps a.index.now o.new.index w.new.index w.new.index a.t.at a.t.count k (dead_by a.whole.now a.t.arg) []
           (omega (arith, c)) (omega (arith, c, c.if-t-total)) (omega (arith, r)) o.ensures w.ensures.1 (wrote_none w.new.index (a.t.count + k) [] refl);
     }

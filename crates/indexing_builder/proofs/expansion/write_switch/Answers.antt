@@ -6,14 +6,14 @@ use native.Mathlib.Omega.{arith}
 use lib.ListN.{length}
 use Rattle.records.specs.declared.Rec.{Rec}
 use Rattle.records.proofs.MoveLaws.{splice-steps}
-use Rattle.indexing.specs.Columns.{switch_recs, new_lines_recs}
+use Rattle.index_writer.specs.Written.{switch_by, new_lines_by}
 use Rattle.indexing_builder.proofs.expansion.write_switch.Goals.{Start}
 use Rattle.indexing_builder.proofs.expansion.write_switch.Goals as goal
 
 -- the switch, d the distance of its first line: 1 for a fresh one, and grown it is the lines before less the own line
 module _ (s : Start) where
   abbrev switch : ℕ → List Rec
-  switch d = switch_recs s.args.leaders.now s.args.heads.now s.args.bits.now s.args.offs.now s.args.settings.dynamic s.args.t.arg d
+  switch d = switch_by s.args.columns.now s.args.settings.dynamic s.args.t.arg d
 
   grown-first : 1 + (s.args.t.lines - s.args.t.line - 1) ≡ s.args.t.lines - s.args.t.line
   grown-first = omega (arith, s.requires.placed.own)
@@ -22,9 +22,7 @@ pub put_switch-requires : goal.put_switch-requires
 put_switch-requires c =
     let s = (goal.at.put_switch-requires c).Start in
     record {
-      heads_len = omega (arith, c);
-      sizes_value = c.requires.switch_columns.sizes-are;
-      leaders_len_bound = omega (arith, c);
+      by_bound = omega (arith, c);
       by_in_bounds = omega (arith, c, ap (λ (d : ℕ). length (switch s d)) (grown-first s), c.open_gap.ensures.count);
     }
 
@@ -35,9 +33,7 @@ pub put_new_lines-requires : goal.put_new_lines-requires
 put_new_lines-requires c =
     let s = (goal.at.put_new_lines-requires c).Start in
     record {
-      leaders_len_bound = omega (arith, c);
-      sizes_value = c.requires.switch_columns.sizes-are;
-      le_arg = omega (arith, c);
+      number_bound = omega (arith, c);
       number_in_bounds = omega (arith, c, ap (λ (d : ℕ). length (switch s d)) (grown-first s), c.open_gap.ensures.count, c.put_switch.ensures.1.count);
     }
 
@@ -51,5 +47,5 @@ returns c =
     rw (← grown-first s)
     (splice-steps a.index.now o.new.index w.new.index v.new.index a.t.at a.t.count a.k
     (switch s (1 + (a.t.lines - a.t.line - 1)))
-    (new_lines_recs a.leaders.now a.heads.now a.opens.now a.offs.now a.tags.now a.settings a.t.arg a.t.lines)
+    (new_lines_by a.columns.now a.settings a.t.arg a.t.lines)
     (omega (arith, c)) (omega (arith, c)) (omega (arith, c, ap (λ (d : ℕ). length (switch s d)) (grown-first s))) o.ensures w.ensures.1 v.ensures.1)

@@ -1,54 +1,68 @@
 -- 1 to 8: the first refusal is handed on; where 1 and 2 passed, c is at most 32. Assumes nothing.
 use mathlib.Core.Path.{◌≡◌, refl, sym, ◌∙◌}
 use native.Mathlib.Omega.{arith}
+use Rattle.std.proofs.lemmas.Result.{err_from_is_err_and}
+use Rattle.indexing_iter.specs.declared.refusal.Refusal.TheVariants.{OpenClause}
 use Rattle.indexing_iter.specs.Classes.{class_of}
 use Rattle.indexing_iter.specs.Checks.{refuse, check_build}
 use Rattle.indexing_iter.proofs.CheckLaws.{arity-passed, chosen-passed, clauses-of-rising}
 use Rattle.indexing_iter.proofs.checks.check_build.Goals.{After-open_somewhere}
 use Rattle.indexing_iter.proofs.checks.check_build.Goals as goal
 
-pub returns-in_default : goal.returns-in_default
+pub returns-in_err-check_arity : goal.returns-in_err-check_arity
 unfolding check_build
-returns-in_default c = rw (← c.check_arity-a.ensures, c.in_default.is) refl
+returns-in_err-check_arity c =
+    let p = err_from_is_err_and c.from_residual.result c.from_residual.ensures.1 in
+    rw (p.1, p.2, ← c.check_arity.ensures, c.in_err-check_arity.was) refl
 
-pub returns-in_default-b : goal.returns-in_default-b
+pub returns-in_err-check_chosen : goal.returns-in_err-check_chosen
 unfolding check_build
-returns-in_default-b c = rw (← c.check_arity-a.ensures, c.in-Passed.is, ← c.check_chosen-b.ensures, c.in_default-b.is) refl
+returns-in_err-check_chosen c =
+    let r = c.from_residual-in_err-check_chosen in
+    let p = err_from_is_err_and r.result r.ensures.1 in
+    rw (p.1, p.2, ← c.check_arity.ensures, c.in_ok-check_arity.was, ← c.check_chosen.ensures, c.in_err-check_chosen.was) refl
 
-pub returns-in_default-d : goal.returns-in_default-d
+pub returns-in_err-check_clauses_of : goal.returns-in_err-check_clauses_of
 unfolding check_build
-returns-in_default-d c = rw (
-  ← c.check_arity-a.ensures,
-  c.in-Passed.is,
-  ← c.check_chosen-b.ensures,
-  c.in-Passed-b.is,
-  ← c.check_clauses_of-d.ensures,
-  c.in_default-d.is,
-) refl
+returns-in_err-check_clauses_of c =
+    let r = c.from_residual-in_err-check_clauses_of in
+    let p = err_from_is_err_and r.result r.ensures.1 in
+    rw (
+      p.1,
+      p.2,
+      ← c.check_arity.ensures,
+      c.in_ok-check_arity.was,
+      ← c.check_chosen.ensures,
+      c.in_ok-check_chosen.was,
+      c.classes.ensures,
+      ← c.check_clauses_of.ensures,
+      c.in_err-check_clauses_of.was,
+    ) refl
 
 pub overflow_cast-c : goal.overflow_cast-c
 overflow_cast-c c =
     let a = c.args in
-    let top = arity-passed a.arity (sym c.check_arity-a.ensures ∙ c.in-Passed.is) in
-    let low = chosen-passed a.arity a.c (sym c.check_chosen-b.ensures ∙ c.in-Passed-b.is) in
+    let top = arity-passed a.arity (sym c.check_arity.ensures ∙ c.in_ok-check_arity.was) in
+    let low = chosen-passed a.arity a.c (sym c.check_chosen.ensures ∙ c.in_ok-check_chosen.was) in
     omega (arith, top.1, low.1)
 
-pub open_somewhere-requires : goal.open_somewhere-requires
-open_somewhere-requires c = clauses-of-rising _ _ _ _ (sym c.check_clauses_of-d.ensures ∙ c.in-Passed-d.is)
+pub invariant_of-clauses : goal.invariant_of-clauses
+invariant_of-clauses c = record { rising = clauses-of-rising _ _ _ _ (sym c.check_clauses_of.ensures ∙ c.in_ok-check_clauses_of.was) }
 
 -- 1 to 7 passed, so that 8 decides
 last : (c : After-open_somewhere)
     → let a = c.args in
-    check_build class_of a.arity a.c a.code.now a.starts.now ≡ refuse c.open_somewhere.result 8
+    check_build class_of a.arity a.c a.code.now a.starts.now ≡ refuse c.open_somewhere.result OpenClause
 unfolding check_build
 last c =
     rw (
-      ← c.check_arity-a.ensures,
-      c.in-Passed.is,
-      ← c.check_chosen-b.ensures,
-      c.in-Passed-b.is,
-      ← c.check_clauses_of-d.ensures,
-      c.in-Passed-d.is,
+      ← c.check_arity.ensures,
+      c.in_ok-check_arity.was,
+      ← c.check_chosen.ensures,
+      c.in_ok-check_chosen.was,
+      c.classes.ensures,
+      ← c.check_clauses_of.ensures,
+      c.in_ok-check_clauses_of.was,
       ← c.open_somewhere.ensures,
     ) refl
 

@@ -17,30 +17,30 @@ use Rattle.indexing_iter.proofs.checks.check_clause.Goals as goal
 bad : (c : After-record_bad)
     →
     let a = c.args in
-    let rs = records_of a.code.now in
-    let cls = class_in a.table.now in
+    let rs = records_of a.reader.now.code.now in
+    let cls = class_in a.reader.now.table.now in
     clause_step c.record_bad.result (arg_of_class c.class_in-class.result c.get-r.result) (has_body cls (slice c.loop-i.i a.end rs))
     a.arity c.loop-i.last (clause_from cls a.arity (slice (c.loop-i.i + 1) a.end rs))
     ≡ check_clause cls a.arity (slice a.start a.end rs)
 bad c =
     let a = c.args in
     let step =
-    clause-step (class_in a.table.now) a.arity (records_of a.code.now) c.loop-i.i a.end c.loop-i.last _ _
+    clause-step (class_in a.reader.now.table.now) a.arity (records_of a.reader.now.code.now) c.loop-i.i a.end c.loop-i.last _ _
     c.loop-i-test.true (search rules) c.get-r.ensures c.class_in-class.ensures in
     rw (step, ← c.record_bad.ensures) at c.loop-i.invariant
 
 turn : (c : After-arg_of_class-a)
     →
     let a = c.args in
-    let rs = records_of a.code.now in
-    let cls = class_in a.table.now in
+    let rs = records_of a.reader.now.code.now in
+    let cls = class_in a.reader.now.table.now in
     clause_step false c.arg_of_class-a.result (has_body cls (slice c.loop-i.i a.end rs)) a.arity c.loop-i.last
     (clause_from cls a.arity (slice (c.loop-i.i + 1) a.end rs))
     ≡ check_clause cls a.arity (slice a.start a.end rs)
 turn c =
     let a = c.args in
     let step =
-    clause-step (class_in a.table.now) a.arity (records_of a.code.now) c.loop-i.i a.end c.loop-i.last _ _
+    clause-step (class_in a.reader.now.table.now) a.arity (records_of a.reader.now.code.now) c.loop-i.i a.end c.loop-i.last _ _
     c.loop-i-test.true (search rules) c.get-r.ensures c.class_in-class.ensures in
     rw (step, ← c.record_bad.ensures, c.if-record_bad.false, ← c.arg_of_class-a.ensures) at c.loop-i.invariant
 
@@ -48,14 +48,14 @@ pub loop-i-init : goal.loop-i-init
 loop-i-init c = clause-whole _ _ _
 
 pub returns-then-record_bad : goal.returns-then-record_bad
-returns-then-record_bad c = rw c.refused_from.ensures (rw c.if-record_bad.true at (bad (goal.at.returns-then-record_bad c).After-record_bad))
+returns-then-record_bad c = rw c.refusal_from.ensures (rw c.if-record_bad.true at (bad (goal.at.returns-then-record_bad c).After-record_bad))
 
 pub returns-in_default : goal.returns-in_default
 returns-in_default c = rw c.in_default.is at (turn (goal.at.returns-in_default c).After-arg_of_class-a)
 
 pub returns-then-register_bad : goal.returns-then-register_bad
 returns-then-register_bad c =
-    rw c.refused_from-then-register_bad.ensures
+    rw c.refusal_from-then-register_bad.ensures
     (rw (c.in-ArgedHead-a.is, ← c.register_bad.ensures, c.if-register_bad.true) at (turn (goal.at.returns-then-register_bad c).After-arg_of_class-a))
 
 pub loop-i-preserved : goal.loop-i-preserved

@@ -1,30 +1,29 @@
 -- 3 to 7: the first refusal is handed on. Assumes nothing.
 use mathlib.Core.Path.{refl, sym, ◌∙◌}
+use Rattle.std.proofs.lemmas.Result.{err_from_is_err_and}
 use Rattle.indexing_iter.specs.Checks.{check_clauses_of}
 use Rattle.indexing_iter.proofs.CheckLaws.{rising-passed}
-use borrow.Author.Rules.{rules}
 use Rattle.indexing_iter.proofs.checks.check_clauses_of.Goals as goal
 
-pub returns-in_default : goal.returns-in_default
+pub returns-in_err-check_size : goal.returns-in_err-check_size
 unfolding check_clauses_of
-returns-in_default c = rw (← c.check_size-a.ensures, c.in_default.is) refl
+returns-in_err-check_size c =
+    let p = err_from_is_err_and c.from_residual.result c.from_residual.ensures.1 in
+    rw (p.1, p.2, ← c.check_size.ensures, c.in_err-check_size.was) refl
 
-pub returns-in_default-b : goal.returns-in_default-b
+pub returns-in_err-check_starts : goal.returns-in_err-check_starts
 unfolding check_clauses_of
-returns-in_default-b c = rw (← c.check_size-a.ensures, c.in-Passed.is, ← c.check_starts-b.ensures, c.in_default-b.is) refl
+returns-in_err-check_starts c =
+    let r = c.from_residual-in_err-check_starts in
+    let p = err_from_is_err_and r.result r.ensures.1 in
+    rw (p.1, p.2, ← c.check_size.ensures, c.in_ok-check_size.was, ← c.check_starts.ensures, c.in_err-check_starts.was) refl
 
-pub check_clauses-requires : goal.check_clauses-requires
-check_clauses-requires c =
+pub invariant_of-clauses : goal.invariant_of-clauses
+invariant_of-clauses c =
     let a = c.args in
-    (search rules, rising-passed a.code.now a.starts.now (sym c.check_starts-b.ensures ∙ c.in-Passed-b.is))
+    record { rising = rising-passed a.reader.now.code.now a.starts.now (sym c.check_starts.ensures ∙ c.in_ok-check_starts.was) }
 
 pub returns : goal.returns
 unfolding check_clauses_of
 returns c =
-    rw (
-      ← c.check_size-a.ensures,
-      c.in-Passed.is,
-      ← c.check_starts-b.ensures,
-      c.in-Passed-b.is,
-      c.classes-table.ensures,
-    ) c.check_clauses.ensures
+    rw (← c.check_size.ensures, c.in_ok-check_size.was, ← c.check_starts.ensures, c.in_ok-check_starts.was) c.check_clauses.ensures

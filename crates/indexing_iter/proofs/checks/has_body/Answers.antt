@@ -16,13 +16,13 @@ use Rattle.indexing_iter.proofs.checks.has_body.Goals as goal
 turn : (c : After-extract_index_arg-a)
     →
     let a = c.args in
-    let rs = records_of a.code.now in
-    let cls = class_in a.table.now in
+    let rs = records_of a.reader.now.code.now in
+    let cls = class_in a.reader.now.table.now in
     (is_body c.extract_index_arg-a.result || has_body cls (slice (c.loop-i.i + 1) a.end rs)) ≡ has_body cls (slice a.start a.end rs)
 turn c =
     let a = c.args in
     rw (
-      body-step (class_in a.table.now) (records_of a.code.now) _ _ c.loop-i-test.true (search rules),
+      body-step (class_in a.reader.now.table.now) (records_of a.reader.now.code.now) _ _ c.loop-i-test.true (search rules),
       ← c.extract_index_arg-a.ensures,
     ) at c.loop-i.invariant
 

@@ -1,4 +1,3 @@
-use Prim.Native.Nat.{◌-◌}
 use mathlib.Core.Path.{◌≡◌}
 use lib.Seq.{slice}
 use Rattle.records.specs.Records.{records_of}
@@ -7,7 +6,4 @@ use Rattle.indexing_iter.proofs.Table.{class_in}
 use Rattle.indexing_iter.proofs.checks.has_body.Given as goal
 
 abbrev pub invariant-loop-i : goal.invariant-loop-i
-invariant-loop-i l = has_body (class_in l.table) (slice l.i l.end (records_of l.code)) ≡ has_body (class_in l.table) (slice l.start l.end (records_of l.code))
-
-abbrev pub decreases-loop-i : goal.decreases-loop-i
-decreases-loop-i l = l.end - l.i
+invariant-loop-i l = has_body (class_in l.reader.table.now) (slice l.i l.end (records_of l.reader.code.now)) ≡ has_body (class_in l.reader.table.now) (slice l.start l.end (records_of l.reader.code.now))

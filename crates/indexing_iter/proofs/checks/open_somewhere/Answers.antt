@@ -1,34 +1,29 @@
 -- 8 clause by clause: the clauses left give the answer that all of them give. Assumes nothing.
 use Prim.Native.Nat.{◌+◌}
-use mathlib.Core.Path.{◌≡◌}
+use mathlib.Core.Path.{◌≡◌, refl}
 use mathlib.Core.Bool.{◌||◌}
-use lib.ListN.{length, drop}
-use borrow.Author.Rules.{rules}
+use lib.ListN.{drop}
 use Rattle.records.specs.Records.{records_of}
-use Rattle.indexing_iter.specs.Classes.{class_of}
 use Rattle.indexing_iter.specs.Clauses.{clauses_of}
 use Rattle.indexing_iter.specs.Checks.{open_somewhere}
-use Rattle.indexing_iter.proofs.CheckLaws.{clauses-step, clauses-none, end-within}
+use Rattle.indexing_iter.proofs.Table.{class_in}
+use Rattle.indexing_iter.proofs.CheckLaws.{clauses-step, clauses-none}
 use Rattle.indexing_iter.proofs.checks.open_somewhere.Goals.{After-is_open}
 use Rattle.indexing_iter.proofs.checks.open_somewhere.Goals as goal
 
 -- in a turn: whether the clause at i has no key, and whether one after it has none
 turn : (c : After-is_open)
     →
-    let a = c.args in
-    let rs = records_of a.code.now in
-    (c.is_open.result || open_somewhere class_of a.c (clauses_of rs (drop (c.loop-i.i + 1) a.starts.now)))
-    ≡ open_somewhere class_of a.c (clauses_of rs a.starts.now)
+    let s = c.args.clauses.now in
+    let rs = records_of s.reader.code.now in
+    (c.is_open.result || open_somewhere (class_in s.reader.table.now) c.args.c (clauses_of rs (drop (c.loop-i.i + 1) s.starts.now)))
+    ≡ open_somewhere (class_in s.reader.table.now) c.args.c (clauses_of rs s.starts.now)
 unfolding open_somewhere
 turn c =
-    let rs = records_of c.args.code.now in
-    let one = clauses-step rs _ _ _ _ c.loop-i-test.true c.capacity-n.ensures c.clause_end-end.ensures in
-    rw (one, ← c.key_in.ensures, ← c.is_open.ensures) at c.loop-i.invariant
-
-pub key_in-requires : goal.key_in-requires
-key_in-requires c =
-    let a = c.args in
-    end-within (length (records_of a.code.now)) _ a.starts.now (c.loop-i.i + 1) _ (search rules) c.capacity-n.ensures c.clause_end-end.ensures
+    let s = c.args.clauses.now in
+    let r = c.range-start in
+    let one = clauses-step (records_of s.reader.code.now) s.starts.now _ c.loop-i.i _ c.loop-i-test.true refl r.ensures.end in
+    rw (one, ← r.ensures.start, ← c.key_by.ensures, ← c.is_open.ensures) at c.loop-i.invariant
 
 pub returns-then-is_open : goal.returns-then-is_open
 returns-then-is_open c = rw c.if-is_open.true at (turn (goal.at.returns-then-is_open c).After-is_open)
@@ -38,4 +33,4 @@ loop-i-preserved c = rw c.if-is_open.false at (turn (goal.at.loop-i-preserved c)
 
 pub returns : goal.returns
 unfolding open_somewhere
-returns c = rw (clauses-none (records_of c.args.code.now) _ _ c.loop-i-test.false) at c.loop-i.invariant
+returns c = rw (clauses-none (records_of c.args.clauses.now.reader.code.now) _ _ c.loop-i-test.false) at c.loop-i.invariant

@@ -5,7 +5,6 @@ use mathlib.Core.Bool.{◌&&◌}
 use native.Mathlib.Omega.{arith}
 use lib.ListN.{length, drop, get_or}
 use lib.Dec.{ltb}
-use borrow.Author.Rules.{rules}
 use borrow.Author.Tests.{lt-ltb, le-ltb}
 use Rattle.indexing_iter.specs.Checks.{rising_below}
 use Rattle.indexing_iter.proofs.CheckLaws.{rising_step, rising-last}
@@ -21,13 +20,13 @@ step : (c : In-loop-i)
 step c = let a = c.args in rising_step a.n a.starts.now c.loop-i.i (omega arith)
 
 pub returns-then-starts-i : goal.returns-then-starts-i
-returns-then-starts-i c = rw (step (goal.at.returns-then-starts-i c).In-loop-i, le-ltb _ _ c.if-starts-i.true) at c.loop-i.invariant.1
+returns-then-starts-i c = rw (step (goal.at.returns-then-starts-i c).In-loop-i, le-ltb _ _ c.if-starts-i.true) at c.loop-i.invariant
 
 pub loop-i-preserved : goal.loop-i-preserved
-loop-i-preserved c = (search rules, rw (step (goal.at.loop-i-preserved c).In-loop-i, lt-ltb _ _ c.if-starts-i.false) at c.loop-i.invariant.1)
+loop-i-preserved c = rw (step (goal.at.loop-i-preserved c).In-loop-i, lt-ltb _ _ c.if-starts-i.false) at c.loop-i.invariant
 
 pub returns : goal.returns
 returns c = let a = c.args in
     let at = c.loop-i in
     let e : at.i ≡ length a.starts.now - 1 = omega arith in
-    rw (← e) (rw (rising-last a.n a.starts.now at.i (omega arith)) at at.invariant.1)
+    rw (← e) (rw (rising-last a.n a.starts.now at.i (omega arith)) at at.invariant)

@@ -1,13 +1,11 @@
 use mathlib.Core.Path.{◌≡◌}
-use Prim.Native.Nat.{◌+◌, ◌-◌, ◌≤◌}
+use Prim.Native.Nat.{◌+◌, ◌≤◌}
 use lib.Seq.{slice}
 use Rattle.records.specs.Records.{records_of}
+use Rattle.indexing_iter.specs.Groups.{group_code}
 use Rattle.indexing_scan.specs.Places.{in_group, count_of}
 use Rattle.indexing_scan.proofs.stored.count_group.Given as goal
 
 abbrev pub invariant-loop-i : goal.invariant-loop-i
-invariant-loop-i l = (l.from ≤ l.i) × (l.i ≤ l.to) × (l.count ≤ l.i)
-    × (l.count + count_of (in_group l.g) (slice l.i l.to (records_of l.index)) ≡ count_of (in_group l.g) (slice l.from l.to (records_of l.index)))
-
-abbrev pub decreases-loop-i : goal.decreases-loop-i
-decreases-loop-i l = l.to - l.i
+invariant-loop-i l = (l.count ≤ l.i)
+    × (l.count + count_of (in_group (group_code l.g)) (slice l.i l.to (records_of l.index)) ≡ count_of (in_group (group_code l.g)) (slice l.from l.to (records_of l.index)))

@@ -1,40 +1,26 @@
-use Prim.Native.Nat.{◌+◌}
-use mathlib.Core.Path.{◌≡◌}
-use lib.ListN.{drop}
+use mathlib.Core.Path.{◌∙◌}
+use Prim.Native.Nat.{ℕ}
+use borrow.Author.Rules.{rules}
+use Rattle.std.proofs.Common.{tests}
+use Rattle.std.proofs.lemmas.Iterator.{YieldsList-from_slice}
+use Rattle.std.proofs.lemmas.Iterator.Adapters.{serves_from_places}
+use Rattle.std.proofs.lemmas.Iterator.Search.{all_from_yields_List}
 use Rattle.records.specs.Records.{records_of}
 use Rattle.indexing_iter.specs.Classes.{class_of}
 use Rattle.indexing_iter.specs.Clauses.{key_of, known}
-use mathlib.Core.Bool.{◌&&◌}
-use Rattle.indexing_scan.specs.Unstored.{all_same}
-use Rattle.indexing_scan.proofs.HeldLaws.{same_step, same-done, known_at}
-use borrow.Author.Rules.{rules}
-use Rattle.indexing_scan.proofs.unstored.all_same.Goals.{After-same_key}
+use Rattle.indexing_iter.specs.Keys.{same}
+use Rattle.indexing_scan.proofs.HeldLaws.{known_in, same-all}
 use Rattle.indexing_scan.proofs.unstored.all_same.Goals as goal
 
--- in a turn: whether the clause at i has the key, and whether those after it have
-turn : (c : After-same_key)
-    →
-    let a = c.args in
-    let K = key_of class_of (records_of a.code.now) a.starts.now in
-    (c.same_key.result && all_same K a.a a.k (drop (c.loop-i.i + 1) a.clauses.now)) ≡ all_same K a.a a.k a.clauses.now
-turn c =
-    let a = c.args in
-    let K = key_of class_of (records_of a.code.now) a.starts.now in
-    rw (same_step K a.a a.k a.clauses.now c.loop-i.i (search rules), ← c.key_of-own.ensures, ← c.same_key.ensures) at c.loop-i.invariant
-
-pub key_of-own-requires : goal.key_of-own-requires
-key_of-own-requires c = let a = c.args in
-    record {
-      starts_value = search rules;
-      offset_value = known_at (known a.starts.now) a.clauses.now c.loop-i.i (search rules) (search rules);
-    }
-
-pub returns-then-not-same_key : goal.returns-then-not-same_key
-returns-then-not-same_key c = rw c.if-not-same_key.true at (turn (goal.at.returns-then-not-same_key c).After-same_key)
-
-pub loop-i-preserved : goal.loop-i-preserved
-loop-i-preserved c = rw c.if-not-same_key.false at (turn (goal.at.loop-i-preserved c).After-same_key)
+pub all-requires-clause-callable : goal.all-requires-clause-callable
+all-requires-clause-callable c = let l = c.args.clauses.now in
+    serves_from_places (YieldsList-from_slice l c.iter.ensures.rest) (λ x q r. search (rules, tests))
+    (λ x k h e. let m = known_in (known c.args.program.now.starts.now) l x.now k c.requires h e in search rules)
 
 pub returns : goal.returns
-returns c = let a = c.args in
-    rw (same-done (key_of class_of (records_of a.code.now) a.starts.now) a.a a.k a.clauses.now c.loop-i.i (search rules)) at c.loop-i.invariant
+returns c =
+    let a = c.args in
+    let K = key_of class_of (records_of a.program.now.code.now) a.program.now.starts.now in
+    all_from_yields_List (λ (o : ℕ). same (K o a.a) a.k) _ _ c.all.result c.all.ensures.ran (YieldsList-from_slice a.clauses.now c.iter.ensures.rest)
+    (λ x b q k. search (rules, tests))
+    ∙ same-all K a.a a.k a.clauses.now

@@ -1,6 +1,6 @@
 use Prim.Native.Nat.{◌+◌, ◌-◌}
 use mathlib.Core.List.{[]}
-use lib.ListN.{length, take}
+use lib.ListN.{length}
 use Rattle.records.specs.Records.{records_of}
 use Rattle.indexing_iter.specs.Classes.{class_of}
 use Rattle.indexing.specs.Build.{program_of}
@@ -11,9 +11,7 @@ use Rattle.indexing_scan.proofs.UnstoredLaws.{Finishing}
 use Rattle.indexing_scan.proofs.unstored.finish.Given as goal
 
 abbrev pub invariant-loop-b : goal.invariant-loop-b
-invariant-loop-b l = let P = program_of class_of l.settings (records_of l.code) l.starts in
-    let A = answer_from P (call_of l.call) (l.settings.arity + 1 - l.a) l.a [] (unstored (take l.m l.initial.clauses)) in
-    Finishing P (call_of l.call) l.starts A l.a l.m (length l.initial.clauses) l.clauses l.count l.tables l.b
-
-abbrev pub decreases-loop-b : goal.decreases-loop-b
-decreases-loop-b l = l.settings.arity + 1 - l.b
+invariant-loop-b l = let p = l.program in
+    let P = program_of class_of p.settings (records_of p.code.now) p.starts.now in
+    let A = answer_from P (call_of l.call) (p.settings.arity + 1 - l.a) l.a [] (unstored l.initial.clauses) in
+    Finishing P (call_of l.call) p.starts.now A l.a (length l.initial.clauses) l.clauses l.count l.tables l.b

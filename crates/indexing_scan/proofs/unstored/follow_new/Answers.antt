@@ -1,171 +1,188 @@
-use Prim.Native.Nat.{◌≤◌, ◌<◌}
+use Prim.Native.Nat.{ℕ, ◌≤◌, ◌<◌}
+use mathlib.Core.List.{List, ◌++◌}
 use mathlib.Core.Path.{◌≡◌, sym, ap, ◌∙◌}
 use mathlib.Core.Bool.{true, false}
 use lib.ListN.{length, take, drop, get_or}
 use lib.Seq.{length-take-le}
+use Rattle.std.proofs.Common.{append_assoc, tests}
+use Rattle.indexing_scan.specs.declared.unstored.Step.TheVariants.{Only, Equal}
 use native.Mathlib.Omega.{arith}
 use Rattle.records.specs.Records.{records_of}
 use Rattle.indexing_iter.specs.Classes.{class_of}
 use Rattle.indexing_iter.specs.Clauses.{key_of, known}
 use Rattle.indexing.specs.Lists.{every}
 use Rattle.indexing.specs.Build.{program_of}
-use Rattle.indexing_scan.specs.Unstored.{like_to, all_same}
+use Rattle.indexing_scan.specs.Unstored.{alike, like_to, all_same}
 use Rattle.indexing_scan.proofs.HeldLaws.{Front, front_kept, length-like, known-like, held-empty, held_none, held-entered}
 use Rattle.indexing_scan.proofs.UnstoredLaws.{known-first, follow-empty, follow_one, follow-equal, follow-none}
 use borrow.Author.Rules.{rules}
-use Rattle.indexing_scan.proofs.unstored.follow_new.Goals.{After-all_same, After-keep_alike-k, After-keep_alike-n}
+use Rattle.indexing_scan.proofs.unstored.follow_new.Goals.{After-all_same, After-keep_if-k, After-keep_if-n}
 use Rattle.indexing_scan.proofs.unstored.follow_new.Goals as goal
 
+-- the clauses of the group, and those with the equal key, as they are kept
+kept-n : (c : After-keep_if-n)
+    → let a = c.args in
+    let p = a.program.now in
+    let G = like_to (key_of class_of (records_of p.code.now) p.starts.now) true a.a a.q a.clauses.now in
+    (c.keep_if-n.result ≡ length G) × (c.keep_if-n.new.clauses ≡ G ++ drop c.keep_if-n.result a.clauses.now)
+unfolding like_to
+kept-n c = c.keep_if-n.ensures.kept (alike true c.args.q) (λ k b e. search (rules, tests))
+
+kept-k : (c : After-keep_if-k)
+    → let a = c.args in
+    let p = a.program.now in
+    let G = take c.keep_if-n.result c.keep_if-n.new.clauses in
+    let B = like_to (key_of class_of (records_of p.code.now) p.starts.now) false a.a a.q G in
+    (c.keep_if-k.result ≡ length B) × (c.keep_if-k.new.clauses ≡ B ++ drop c.keep_if-k.result G)
+unfolding like_to
+kept-k c = c.keep_if-k.ensures.kept (alike false c.args.q) (λ k b e. search (rules, tests))
+
 -- the clauses of the group stand at the front, and have known offsets
-grouped : (c : After-keep_alike-n)
+grouped : (c : After-keep_if-n)
     → let a = c.args in
-    Front (like_to (key_of class_of (records_of a.code.now) a.starts.now) true a.a a.q (take a.m a.clauses.now))
-    c.keep_alike-n.result c.keep_alike-n.new.clauses
+    let p = a.program.now in
+    Front (like_to (key_of class_of (records_of p.code.now) p.starts.now) true a.a a.q a.clauses.now)
+    c.keep_if-n.result c.keep_if-n.new.clauses
 grouped c = let a = c.args in
-    let G = like_to (key_of class_of (records_of a.code.now) a.starts.now) true a.a a.q (take a.m a.clauses.now) in
-    front_kept G (drop c.keep_alike-n.result a.clauses.now) c.keep_alike-n.new.clauses c.keep_alike-n.result c.keep_alike-n.ensures.value c.keep_alike-n.ensures.clauses_after
+    let p = a.program.now in
+    let G = like_to (key_of class_of (records_of p.code.now) p.starts.now) true a.a a.q a.clauses.now in
+    front_kept G (drop c.keep_if-n.result a.clauses.now) c.keep_if-n.new.clauses c.keep_if-n.result (kept-n c).0 (kept-n c).1
 
-grouped-known : (c : After-keep_alike-n)
+grouped-known : (c : After-keep_if-n)
     → let a = c.args in
-    every (known a.starts.now) (take c.keep_alike-n.result c.keep_alike-n.new.clauses) ≡ true
+    let p = a.program.now in
+    every (known p.starts.now) (take c.keep_if-n.result c.keep_if-n.new.clauses) ≡ true
 grouped-known c = let a = c.args in
-    let K = key_of class_of (records_of a.code.now) a.starts.now in
-    ap (every (known a.starts.now)) (grouped c).front ∙ known-like (known a.starts.now) K true a.a a.q (take a.m a.clauses.now) (search rules)
+    let p = a.program.now in
+    let K = key_of class_of (records_of p.code.now) p.starts.now in
+    ap (every (known p.starts.now)) (grouped c).front ∙ known-like (known p.starts.now) K true a.a a.q a.clauses.now (search rules)
 
-grouped-few : (c : After-keep_alike-n) → c.keep_alike-n.result ≤ c.args.m
+grouped-few : (c : After-keep_if-n) → c.keep_if-n.result ≤ length c.args.clauses.now
 grouped-few c = let a = c.args in
-    let K = key_of class_of (records_of a.code.now) a.starts.now in
-    let n : length (take a.m a.clauses.now) ≡ a.m = length-take-le a.m a.clauses.now (search rules) in
-    omega (arith, (grouped c).count, length-like K true a.a a.q (take a.m a.clauses.now))
+    let p = a.program.now in
+    let K = key_of class_of (records_of p.code.now) p.starts.now in
+    omega (arith, (grouped c).count, length-like K true a.a a.q a.clauses.now)
 
 -- whether the group has one key
 compared : (c : After-all_same)
     →
     let a = c.args in
-    let K = key_of class_of (records_of a.code.now) a.starts.now in
-    let list = c.keep_alike-n.new.clauses in
-    c.all_same.result ≡ all_same K a.a (K (get_or list 0 0) a.a) (take c.keep_alike-n.result list)
+    let p = a.program.now in
+    let K = key_of class_of (records_of p.code.now) p.starts.now in
+    let list = c.keep_if-n.new.clauses in
+    c.all_same.result ≡ all_same K a.a (K (get_or list 0 0) a.a) (take c.keep_if-n.result list)
 compared c =
     let a = c.args in
-    let K = key_of class_of (records_of a.code.now) a.starts.now in
-    let list = c.keep_alike-n.new.clauses in
-    c.all_same.ensures ∙ ap (λ k. all_same K a.a k (take c.keep_alike-n.result list)) c.key_of-key.ensures
+    let p = a.program.now in
+    let K = key_of class_of (records_of p.code.now) p.starts.now in
+    let list = c.keep_if-n.new.clauses in
+    c.all_same.ensures ∙ ap (λ k. all_same K a.a k (take c.keep_if-n.result list)) c.key_of-key.ensures
 
--- the clauses with the equal key stand at the front
-picked : (c : After-keep_alike-k)
+-- the list after the clauses with the equal key were moved, and those clauses at its front
+moved : After-keep_if-k → List ℕ
+moved c = c.keep_if-k.new.clauses ++ drop c.keep_if-n.result c.keep_if-n.new.clauses
+
+picked : (c : After-keep_if-k)
     →
     let a = c.args in
-    Front (like_to (key_of class_of (records_of a.code.now) a.starts.now) false a.a a.q (take c.keep_alike-n.result c.keep_alike-n.new.clauses))
-    c.keep_alike-k.result c.keep_alike-k.new.clauses
+    let p = a.program.now in
+    Front (like_to (key_of class_of (records_of p.code.now) p.starts.now) false a.a a.q (take c.keep_if-n.result c.keep_if-n.new.clauses))
+    c.keep_if-k.result (moved c)
+unfolding moved
 picked c =
     let a = c.args in
-    let list = c.keep_alike-n.new.clauses in
-    let B = like_to (key_of class_of (records_of a.code.now) a.starts.now) false a.a a.q (take c.keep_alike-n.result list) in
-    front_kept B (drop c.keep_alike-k.result list) c.keep_alike-k.new.clauses c.keep_alike-k.result c.keep_alike-k.ensures.value c.keep_alike-k.ensures.clauses_after
+    let p = a.program.now in
+    let list = c.keep_if-n.new.clauses in
+    let G = take c.keep_if-n.result list in
+    let B = like_to (key_of class_of (records_of p.code.now) p.starts.now) false a.a a.q G in
+    let k = c.keep_if-k in
+    front_kept B (drop k.result G ++ drop c.keep_if-n.result list) (moved c) k.result (kept-k c).0
+    (ap (λ l. l ++ drop c.keep_if-n.result list) (kept-k c).1 ∙ append_assoc B (drop k.result G) (drop c.keep_if-n.result list))
 
-picked-known : (c : After-keep_alike-k) → every (known c.args.starts.now) (take c.keep_alike-n.result c.keep_alike-n.new.clauses) ≡ true
-    → let a = c.args in
-    every (known a.starts.now) (take c.keep_alike-k.result c.keep_alike-k.new.clauses) ≡ true
+picked-known : (c : After-keep_if-k) → every (known c.args.program.now.starts.now) (take c.keep_if-n.result c.keep_if-n.new.clauses) ≡ true
+    → every (known c.args.program.now.starts.now) (take c.keep_if-k.result (moved c)) ≡ true
 picked-known c e =
     let a = c.args in
-    let K = key_of class_of (records_of a.code.now) a.starts.now in
-    let G = take c.keep_alike-n.result c.keep_alike-n.new.clauses in
-    ap (every (known a.starts.now)) (picked c).front ∙ known-like (known a.starts.now) K false a.a a.q G e
+    let p = a.program.now in
+    let K = key_of class_of (records_of p.code.now) p.starts.now in
+    let G = take c.keep_if-n.result c.keep_if-n.new.clauses in
+    ap (every (known p.starts.now)) (picked c).front ∙ known-like (known p.starts.now) K false a.a a.q G e
 
-picked-few : (c : After-keep_alike-k) → c.keep_alike-n.result ≤ length c.keep_alike-n.new.clauses → c.keep_alike-n.result ≤ c.args.m → c.keep_alike-k.result ≤ c.args.m
+picked-few : (c : After-keep_if-k) → c.keep_if-n.result ≤ length c.keep_if-n.new.clauses → c.keep_if-n.result ≤ length c.args.clauses.now
+    → c.keep_if-k.result ≤ length c.args.clauses.now
 picked-few c room few =
     let a = c.args in
-    let K = key_of class_of (records_of a.code.now) a.starts.now in
-    let list = c.keep_alike-n.new.clauses in
-    let n : length (take c.keep_alike-n.result list) ≡ c.keep_alike-n.result = length-take-le c.keep_alike-n.result list room in
-    omega (arith, (picked c).count, length-like K false a.a a.q (take c.keep_alike-n.result list))
+    let p = a.program.now in
+    let K = key_of class_of (records_of p.code.now) p.starts.now in
+    let list = c.keep_if-n.new.clauses in
+    let n : length (take c.keep_if-n.result list) ≡ c.keep_if-n.result = length-take-le c.keep_if-n.result list room in
+    omega (arith, (picked c).count, length-like K false a.a a.q (take c.keep_if-n.result list))
 
 pub returns-then-n-eq0 : goal.returns-then-n-eq0
 returns-then-n-eq0 c =
     let a = c.args in
-    let P = program_of class_of a.settings (records_of a.code.now) a.starts.now in
-    let list = c.keep_alike-n.new.clauses in
+    let p = a.program.now in
+    let P = program_of class_of p.settings (records_of p.code.now) p.starts.now in
+    let list = c.keep_if-n.new.clauses in
     rw c.no_entry.ensures (record {
-      clauses_after = follow-empty P a.a (take a.m a.clauses.now) a.q (search rules) c.keep_alike-n.result list c.keep_alike-n.ensures.value c.if-n-eq0.true;
-      held = held-empty a.starts.now a.m a.clauses.now list a.settings.dynamic a.q;
+      clauses_after = follow-empty P a.a a.clauses.now a.q (search rules) c.keep_if-n.result list (kept-n (goal.at.returns-then-n-eq0 c).After-keep_if-n).0 c.if-n-eq0.true;
+      held = held-empty p.starts.now a.clauses.now list p.settings.dynamic a.q;
     })
-
-pub bounds-clauses-0 : goal.bounds-clauses-0
-bounds-clauses-0 c =
-    let h : 0 < length c.keep_alike-n.new.clauses = omega (arith, (grouped (goal.at.bounds-clauses-0 c).After-keep_alike-n).room, c.if-n-eq0.false) in
-    h
 
 pub key_of-key-requires : goal.key_of-key-requires
 key_of-key-requires c =
     let a = c.args in
-    record {
-      starts_value = search rules;
-      offset_value = known-first (known a.starts.now) c.keep_alike-n.result c.keep_alike-n.new.clauses (grouped-known (goal.at.key_of-key-requires c).After-keep_alike-n) (omega (arith, c.if-n-eq0.false)) (grouped (goal.at.key_of-key-requires c).After-keep_alike-n).room;
-    }
-
-pub slice_bounds-all_same-end : goal.slice_bounds-all_same-end
-slice_bounds-all_same-end c = (grouped (goal.at.slice_bounds-all_same-end c).After-keep_alike-n).room
-
-pub slice_bounds-all_same-end-2 : goal.slice_bounds-all_same-end-2
-slice_bounds-all_same-end-2 c =
-    sym (length-take-le c.keep_alike-n.result c.keep_alike-n.new.clauses (grouped (goal.at.slice_bounds-all_same-end-2 c).After-keep_alike-n).room)
+    let p = a.program.now in
+    known-first (known p.starts.now) c.keep_if-n.result c.keep_if-n.new.clauses (grouped-known (goal.at.key_of-key-requires c).After-keep_if-n) (omega (arith, c.if-n-eq0.false)) (grouped (goal.at.key_of-key-requires c).After-keep_if-n).room
 
 pub all_same-requires : goal.all_same-requires
-all_same-requires c = record {
-  starts_value = search rules;
-  clauses_value = grouped-known (goal.at.all_same-requires c).After-keep_alike-n;
-}
+all_same-requires c = grouped-known (goal.at.all_same-requires c).After-keep_if-n
 
 pub returns-then-all_same : goal.returns-then-all_same
 returns-then-all_same c =
     let a = c.args in
-    let P = program_of class_of a.settings (records_of a.code.now) a.starts.now in
-    let n = c.keep_alike-n.result in
-    let list = c.keep_alike-n.new.clauses in
+    let p = a.program.now in
+    let P = program_of class_of p.settings (records_of p.code.now) p.starts.now in
+    let n = c.keep_if-n.result in
+    let list = c.keep_if-n.new.clauses in
     let h : 0 < n = omega (arith, c.if-n-eq0.false) in
     rw c.entered.ensures (record {
-      clauses_after = follow_one P a.a (take a.m a.clauses.now) a.q (search rules) n list (grouped (goal.at.returns-then-all_same c).After-keep_alike-n) h (sym (compared (goal.at.returns-then-all_same c).After-all_same) ∙ c.if-all_same.true);
-      held = held-entered a.starts.now a.m a.clauses.now list a.settings.dynamic 4 n (grouped (goal.at.returns-then-all_same c).After-keep_alike-n).room (grouped-few (goal.at.returns-then-all_same c).After-keep_alike-n) (grouped-known (goal.at.returns-then-all_same c).After-keep_alike-n);
+      clauses_after = follow_one P a.a a.clauses.now a.q (search rules) n list (grouped (goal.at.returns-then-all_same c).After-keep_if-n) h (sym (compared (goal.at.returns-then-all_same c).After-all_same) ∙ c.if-all_same.true);
+      held = held-entered p.starts.now a.clauses.now list p.settings.dynamic Only n (grouped (goal.at.returns-then-all_same c).After-keep_if-n).room (grouped-few (goal.at.returns-then-all_same c).After-keep_if-n) (grouped-known (goal.at.returns-then-all_same c).After-keep_if-n);
     })
 
-pub keep_alike-k-requires : goal.keep_alike-k-requires
-keep_alike-k-requires c =
-    record {
-      starts_value = search rules;
-      m_in_bounds = ((grouped (goal.at.keep_alike-k-requires c).After-keep_alike-n).room, grouped-known (goal.at.keep_alike-k-requires c).After-keep_alike-n);
-    }
+pub keep_if-k-requires-clause-clauses_value : goal.keep_if-k-requires-clause-clauses_value
+keep_if-k-requires-clause-clauses_value c = grouped-known (goal.at.keep_if-k-requires-clause-clauses_value c).After-keep_if-n
 
 pub returns-then-k-eq0 : goal.returns-then-k-eq0
+unfolding moved
 returns-then-k-eq0 c =
     let a = c.args in
-    let P = program_of class_of a.settings (records_of a.code.now) a.starts.now in
-    let n = c.keep_alike-n.result in
-    let list = c.keep_alike-n.new.clauses in
-    let new = c.keep_alike-k.new.clauses in
+    let p = a.program.now in
+    let P = program_of class_of p.settings (records_of p.code.now) p.starts.now in
+    let n = c.keep_if-n.result in
+    let list = c.keep_if-n.new.clauses in
     let h : 0 < n = omega (arith, c.if-n-eq0.false) in record {
-      clauses_after = follow-none P a.a (take a.m a.clauses.now) a.q (search rules) n c.keep_alike-k.result list (grouped (goal.at.returns-then-k-eq0 c).After-keep_alike-n) h
-          (sym (compared (goal.at.returns-then-k-eq0 c).After-all_same) ∙ c.if-all_same.false) c.keep_alike-k.ensures.value c.if-k-eq0.true;
-      held = held_none a.starts.now a.m a.clauses.now new;
+      clauses_after = follow-none P a.a a.clauses.now a.q (search rules) n c.keep_if-k.result list (grouped (goal.at.returns-then-k-eq0 c).After-keep_if-n) h
+          (sym (compared (goal.at.returns-then-k-eq0 c).After-all_same) ∙ c.if-all_same.false) (kept-k (goal.at.returns-then-k-eq0 c).After-keep_if-k).0 c.if-k-eq0.true;
+      held = held_none p.starts.now a.clauses.now (moved (goal.at.returns-then-k-eq0 c).After-keep_if-k);
     }
 
-pub bounds-clauses-0-2 : goal.bounds-clauses-0-2
-bounds-clauses-0-2 c =
-    let h : 0 < length c.keep_alike-k.new.clauses = omega (arith, (picked (goal.at.bounds-clauses-0-2 c).After-keep_alike-k).room, c.if-k-eq0.false) in
-    h
-
 pub returns : goal.returns
+unfolding moved
 returns c =
     let a = c.args in
-    let P = program_of class_of a.settings (records_of a.code.now) a.starts.now in
-    let n = c.keep_alike-n.result in
-    let list = c.keep_alike-n.new.clauses in
-    let new = c.keep_alike-k.new.clauses in
+    let p = a.program.now in
+    let P = program_of class_of p.settings (records_of p.code.now) p.starts.now in
+    let n = c.keep_if-n.result in
+    let list = c.keep_if-n.new.clauses in
+    let new = moved (goal.at.returns c).After-keep_if-k in
     let h : 0 < n = omega (arith, c.if-n-eq0.false) in
-    let z : 0 < c.keep_alike-k.result = omega (arith, c.if-k-eq0.false) in
-    let p = goal.at.returns c in
+    let z : 0 < c.keep_if-k.result = omega (arith, c.if-k-eq0.false) in
+    let g = goal.at.returns c in
     rw c.entered-2.ensures (record {
-      clauses_after = follow-equal P a.a (take a.m a.clauses.now) a.q (search rules) n c.keep_alike-k.result list new (grouped p.After-keep_alike-n) h
-          (sym (compared p.After-all_same) ∙ c.if-all_same.false) (picked p.After-keep_alike-k) z;
-      held = held-entered a.starts.now a.m a.clauses.now new a.settings.dynamic 5 c.keep_alike-k.result (picked p.After-keep_alike-k).room (picked-few p.After-keep_alike-k (grouped p.After-keep_alike-n).room (grouped-few p.After-keep_alike-n))
-          (picked-known p.After-keep_alike-k (grouped-known p.After-keep_alike-n));
+      clauses_after = follow-equal P a.a a.clauses.now a.q (search rules) n c.keep_if-k.result list new (grouped g.After-keep_if-n) h
+          (sym (compared g.After-all_same) ∙ c.if-all_same.false) (picked g.After-keep_if-k) z;
+      held = held-entered p.starts.now a.clauses.now new p.settings.dynamic Equal c.keep_if-k.result (picked g.After-keep_if-k).room (picked-few g.After-keep_if-k (grouped g.After-keep_if-n).room (grouped-few g.After-keep_if-n))
+          (picked-known g.After-keep_if-k (grouped-known g.After-keep_if-n));
     })

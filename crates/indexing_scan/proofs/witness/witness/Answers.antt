@@ -1,30 +1,25 @@
+use mathlib.Core.Path.{sym}
+use Rattle.std.proofs.lemmas.Result.{err_from_is_err_and}
 use Rattle.indexing_iter.specs.Classes.{class_of}
 use Rattle.indexing_scan.proofs.WitnessLaws.{refused-first, refused-next, found_first}
 use Rattle.indexing_scan.proofs.witness.witness.Goals as goal
 
-pub returns-in_default : goal.returns-in_default
-returns-in_default c = let a = c.args in
-    let x = c.check_code-a in
-    refused-first class_of a.code.now a.starts.now a.settings a.call.now x.result x.ensures _ c.refusal_of.result c.in_default.is c.refusal_of.ensures
+pub returns-in_err-program : goal.returns-in_err-program
+returns-in_err-program c =
+    let a = c.args in
+    let p = err_from_is_err_and c.from_residual.result c.from_residual.ensures.1 in
+    rw (p.1, p.2) (refused-first class_of a.code.now a.starts.now a.settings a.call.now _ (sym c.in_err-program.ensures.value))
 
-pub returns-in_default-b : goal.returns-in_default-b
-returns-in_default-b c = let a = c.args in
-    let x = c.check_code-a in
-    let y = c.check_call-b in
-    refused-next class_of a.code.now a.starts.now a.settings a.call.now x.result x.ensures
-    c.in-Passed.is y.result y.ensures _ c.refusal_of-in_default-b.result c.in_default-b.is c.refusal_of-in_default-b.ensures
-
-pub first_agreeing-requires : goal.first_agreeing-requires
-first_agreeing-requires c = let x = c.check_code-a in
-    let y = c.check_call-b in
-    record {
-      starts_value = rw (← x.ensures) c.in-Passed.is;
-      call_value = rw (← y.ensures) c.in-Passed-b.is;
-    }
+pub returns-in_err-check_call : goal.returns-in_err-check_call
+returns-in_err-check_call c =
+    let a = c.args in
+    let r = c.from_residual-in_err-check_call in
+    let p = err_from_is_err_and r.result r.ensures.1 in
+    rw (p.1, p.2) (refused-next class_of a.code.now a.starts.now a.settings a.call.now (sym c.in_ok-program.ensures.value) _ (sym c.in_err-check_call.ensures))
 
 pub returns : goal.returns
-returns c = let a = c.args in
-    let x = c.check_code-a in
-    let y = c.check_call-b in
-    found_first class_of a.code.now a.starts.now a.settings a.call.now x.result x.ensures
-    c.in-Passed.is y.result y.ensures c.first_agreeing.result c.in-Passed-b.is c.first_agreeing.ensures
+returns c =
+    let a = c.args in
+    let m = c.in_ok-program.ensures.made in
+    let f = rw (m.0, m.1, m.2) at c.first_agreeing.ensures in
+    found_first class_of a.code.now a.starts.now a.settings a.call.now (sym c.in_ok-program.ensures.value) c.first_agreeing.result (sym c.in_ok-check_call.ensures) f

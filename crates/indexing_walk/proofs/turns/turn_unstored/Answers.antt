@@ -1,9 +1,10 @@
-use mathlib.Core.Path.{◌≡◌, ap}
+use mathlib.Core.Path.{◌≡◌, refl, ap, ◌∙◌}
 use mathlib.Core.Bool.{true}
-use mathlib.Core.List.{[]}
+use mathlib.Core.List.{[], ◌++◌}
 use Prim.Native.Nat.{◌+◌, ◌-◌, ◌≤◌}
 use native.Mathlib.Omega.{arith}
-use lib.ListN.{length, take}
+use lib.ListN.{length, take, drop}
+use lib.Seq.{length-take-le, take-append-le}
 use Rattle.records.specs.Records.{records_of}
 use Rattle.indexing_iter.specs.Classes.{class_of}
 use Rattle.indexing_iter.specs.Clauses.{known}
@@ -12,110 +13,114 @@ use Rattle.indexing.specs.Lists.{every}
 use Rattle.indexing_scan.specs.Calls.{call_of}
 use Rattle.indexing_scan.specs.Walk.{unstored}
 use Rattle.indexing_scan.specs.declared.unstored.Finished.{Finished}
-use Rattle.indexing_walk.proofs.StandLaws.{AtDemand, below-count}
+use Rattle.indexing_walk.proofs.StandLaws.{AtDemand}
 use Rattle.indexing_walk.proofs.LineLaws.{LineRead, place_in, room, line_read}
-use Rattle.indexing_walk.proofs.NarrowLaws.{Narrows, narrows, path-few}
+use Rattle.indexing_walk.proofs.NarrowLaws.{Narrows, front-of, narrows, path-few}
 use borrow.Author.Rules.{rules}
-use Rattle.indexing_walk.proofs.turns.turn_unstored.Goals.{After-demand_at-x, After-finish-f, After-read_line-m, Start}
+use Rattle.indexing_walk.proofs.turns.turn_unstored.Goals.{After-demand_at, After-finish-f, After-read_line-m, In-Bucket, Start}
 use Rattle.indexing_walk.proofs.turns.turn_unstored.Goals as goal
 
 -- the walk is at an on-demand table, in checked code
-due : (s : Start) → AtDemand s.args.code.now s.args.starts.now s.args.settings s.args.index.now s.args.w s.args.a
+due : (s : Start) → AtDemand s.args.program.now.code.now s.args.program.now.starts.now s.args.program.now.settings s.args.index.now s.args.w s.args.a
 due s = let at = s.requires.zero_rec_value in
-    record { ready = record { checked = s.requires.starts_value; stands = s.requires.stands }; kind = at.0; half = at.1 }
+    record { ready = record { checked = s.args.program.now.checked; stands = s.requires.stands }; kind = at.0; half = at.1 }
 
 -- the offsets of its line are read
 read : (c : After-read_line-m)
-    → let a = c.args in LineRead a.starts.now a.index.now a.w c.read_line-m.result c.read_line-m.new.list
+    → let a = c.args in LineRead a.program.now.starts.now a.index.now a.w (take c.read_line-m.result c.read_line-m.new.list)
 read c =
     let a = c.args in
-    let due : AtDemand a.code.now a.starts.now a.settings a.index.now a.w a.a =
-    record { ready = record { checked = c.requires.starts_value; stands = c.requires.stands }; kind = c.requires.zero_rec_value.0; half = c.requires.zero_rec_value.1 } in
+    let due : AtDemand a.program.now.code.now a.program.now.starts.now a.program.now.settings a.index.now a.w a.a =
+    record { ready = record { checked = a.program.now.checked; stands = c.requires.stands }; kind = c.requires.zero_rec_value.0; half = c.requires.zero_rec_value.1 } in
     let r = c.read_line-m in
     line_read due.ready r.result r.new.list c.args.list.now r.ensures.0 r.ensures.1
 
 -- and narrowed at the table's argument
-narrowed : (c : After-demand_at-x)
+narrowed : (c : After-demand_at)
     → let a = c.args in
-    Narrows a.code.now a.starts.now a.settings a.call.now a.index.now a.w a.a c.demand_at-x.new.clauses c.demand_at-x.result
+    Narrows a.program.now.code.now a.program.now.starts.now a.program.now.settings a.call.now a.index.now a.w a.a c.demand_at.new.clauses c.demand_at.result
 narrowed c =
     let a = c.args in
-    let due : AtDemand a.code.now a.starts.now a.settings a.index.now a.w a.a =
-    record { ready = record { checked = c.requires.starts_value; stands = c.requires.stands }; kind = c.requires.zero_rec_value.0; half = c.requires.zero_rec_value.1 } in
+    let due : AtDemand a.program.now.code.now a.program.now.starts.now a.program.now.settings a.index.now a.w a.a =
+    record { ready = record { checked = a.program.now.checked; stands = c.requires.stands }; kind = c.requires.zero_rec_value.0; half = c.requires.zero_rec_value.1 } in
     let r = c.read_line-m in
-    let d = c.demand_at-x in
-    narrows due c.args.call.now c.args.q c.requires.q_value.0 c.requires.q_value.1 c.requires.list_len.1
-    d.new.clauses r.new.list r.result d.result (line_read due.ready r.result r.new.list c.args.list.now r.ensures.0 r.ensures.1) d.ensures.clauses_after d.ensures.held
+    let d = c.demand_at in
+    narrows due c.args.call.now c.args.q c.requires.q_value.0 c.requires.q_value.1 c.requires.off.0
+    d.new.clauses (take r.result r.new.list) d.result (line_read due.ready r.result r.new.list c.args.list.now r.ensures.0 r.ensures.1) d.ensures.clauses_after d.ensures.held
 
--- the list is as long as it was
-same-list : (c : After-demand_at-x) → length c.demand_at-x.new.clauses ≡ length c.args.list.now
-same-list c = search rules
+pub invariant_of-stored : goal.invariant_of-stored
+invariant_of-stored c = record { within = (place_in (due (goal.at.invariant_of-stored c).Start).ready).1 }
+
+-- the list has room for them
+in_list : (c : After-read_line-m) → (c.read_line-m.result ≤ 1024) × (c.read_line-m.result ≤ length c.read_line-m.new.list)
+in_list c =
+    let a = c.args in
+    let due : AtDemand a.program.now.code.now a.program.now.starts.now a.program.now.settings a.index.now a.w a.a =
+    record { ready = record { checked = a.program.now.checked; stands = c.requires.stands }; kind = c.requires.zero_rec_value.0; half = c.requires.zero_rec_value.1 } in
+    let len : length c.read_line-m.new.list ≡ length a.list.now = search rules in
+    let n : c.read_line-m.result ≤ 1024 = omega (arith, c.read_line-m.ensures.0, room due.ready 1024 refl) in
+    (n, omega (arith, n, len))
+
+pub read_line-m-requires-clause-p_in_bounds : goal.read_line-m-requires-clause-p_in_bounds
+read_line-m-requires-clause-p_in_bounds c = room (due (goal.at.read_line-m-requires-clause-p_in_bounds c).Start).ready (length c.args.list.now) (omega arith)
+
+pub slice_bounds-demand_at-end : goal.slice_bounds-demand_at-end
+slice_bounds-demand_at-end c = (in_list (goal.at.slice_bounds-demand_at-end c).After-read_line-m).0
+
+pub demand_at-requires-clause-clauses_value : goal.demand_at-requires-clause-clauses_value
+demand_at-requires-clause-clauses_value c = (read (goal.at.demand_at-requires-clause-clauses_value c).After-read_line-m).known-all
+
+-- the bucket's clauses are at the front of the line's, and these of the list
+bucket : (c : In-Bucket)
+    → let d = c.demand_at in
+    (c.in-Bucket.k ≤ length d.new.clauses) × (take c.in-Bucket.k (d.new.clauses ++ drop c.read_line-m.result c.read_line-m.new.list) ≡ take c.in-Bucket.k d.new.clauses)
+bucket c =
+    let d = c.demand_at in
+    let len : length d.new.clauses ≡ length (take c.read_line-m.result c.read_line-m.new.list) = search rules in
+    let within : c.in-Bucket.k ≤ length (take c.read_line-m.result c.read_line-m.new.list) = rw c.in-Bucket.is at d.ensures.held.within in
+    let h : c.in-Bucket.k ≤ length d.new.clauses = omega (arith, within, len) in
+    (h, take-append-le c.in-Bucket.k d.new.clauses _ h)
+
+pub finish-f-requires-clause-clauses_value : goal.finish-f-requires-clause-clauses_value
+finish-f-requires-clause-clauses_value c =
+    let o : every (known c.args.program.now.starts.now) (take c.in-Bucket.k c.demand_at.new.clauses) ≡ true = rw c.in-Bucket.is at c.demand_at.ensures.held.offsets in
+    ap (every (known c.args.program.now.starts.now)) (bucket (goal.at.finish-f-requires-clause-clauses_value c).In-Bucket).1 ∙ o
 
 -- the answer from a bucket looks at few tables
 few-tables : (c : After-finish-f) → c.finish-f.result.tables ≤ 32
 few-tables c =
     let a = c.args in
-    let few = path-few (program_of class_of a.settings (records_of a.code.now) a.starts.now) (call_of a.call.now) (a.settings.arity + 1 - (a.a + 1)) (a.a + 1) []
-    (unstored (take c.in-Bucket.k c.demand_at-x.new.clauses)) in
-    omega (arith, few, ap (λ (y : Finished). y.tables) c.finish-f.ensures.result_value, c.requires.list_len.5)
-
-pub read_line-m-requires : goal.read_line-m-requires
-read_line-m-requires c =
-    record {
-      p_le_n = place_in (due (goal.at.read_line-m-requires c).Start).ready;
-      p_in_bounds = room (due (goal.at.read_line-m-requires c).Start).ready (length c.args.list.now) c.requires.list_len.0;
-    }
-
-pub demand_at-x-requires : goal.demand_at-x-requires
-demand_at-x-requires c =
-    let r = read (goal.at.demand_at-x-requires c).After-read_line-m in
-    let len : length c.read_line-m.new.list ≡ length c.args.list.now = search rules in
-    record {
-      starts_value = c.requires.starts_value;
-      m_in_bounds = (omega (arith, r.within-1024, len, c.requires.list_len.0), r.known-all);
-      q_value = c.requires.q_value.1;
-    }
-
-pub skip_items-requires : goal.skip_items-requires
-skip_items-requires c = let d = due (goal.at.skip_items-requires c).Start in
-    (below-count d, (place_in d.ready).1)
-
-pub finish-f-requires : goal.finish-f-requires
-finish-f-requires c =
-    let d = c.demand_at-x in
-    let new = d.new.clauses in
-    let x = c.in-Bucket in
-    let k : x.k ≤ c.read_line-m.result = rw x.is at d.ensures.held.within in
-    let o : every (known c.args.starts.now) (take x.k new) ≡ true = rw x.is at d.ensures.held.offsets in
-    record {
-      starts_value = c.requires.starts_value;
-      call_value = c.requires.call_value;
-      m_in_bounds = (omega (arith, k, (read (goal.at.finish-f-requires c).After-read_line-m).within-1024, same-list (goal.at.finish-f-requires c).After-demand_at-x, c.requires.list_len.0), o);
-      le_a = (omega arith, omega (arith, c.requires.list_len.4));
-    }
+    let few = path-few (program_of class_of a.program.now.settings (records_of a.program.now.code.now) a.program.now.starts.now) (call_of a.call.now) (a.program.now.settings.arity + 1 - (a.a + 1)) (a.a + 1) []
+    (unstored (take c.in-Bucket.k (c.demand_at.new.clauses ++ drop c.read_line-m.result c.read_line-m.new.list))) in
+    omega (arith, few, ap (λ (y : Finished). y.tables) c.finish-f.ensures.result_value, c.requires.off.4)
 
 pub overflow_add-f : goal.overflow_add-f
 overflow_add-f c = omega (arith, few-tables (goal.at.overflow_add-f c).After-finish-f)
 
 pub end_with-requires-in-Bucket : goal.end_with-requires-in-Bucket
-end_with-requires-in-Bucket c = (c.requires.list_len.2, omega (arith, few-tables (goal.at.end_with-requires-in-Bucket c).After-finish-f))
+end_with-requires-in-Bucket c = (c.requires.off.1, omega (arith, few-tables (goal.at.end_with-requires-in-Bucket c).After-finish-f))
 
 pub returns-in-NoTable : goal.returns-in-NoTable
-returns-in-NoTable c = absurd (rw c.in-NoTable.is at (narrowed (goal.at.returns-in-NoTable c).After-demand_at-x))
+returns-in-NoTable c = absurd (rw c.in-NoTable.is at (narrowed (goal.at.returns-in-NoTable c).After-demand_at))
 
 pub returns-in-Passed : goal.returns-in-Passed
-returns-in-Passed c = let go = rw c.in-Passed.is at (narrowed (goal.at.returns-in-Passed c).After-demand_at-x) in
-    go c.skip_items.result c.moved_to.result c.skip_items.ensures.0 c.moved_to.ensures
+returns-in-Passed c = let go = rw c.in-Passed.is at (narrowed (goal.at.returns-in-Passed c).After-demand_at) in
+    go _ c.pass_table.result refl c.pass_table.ensures
 
 pub returns-in-Failed : goal.returns-in-Failed
-returns-in-Failed c = let go = rw c.in-Failed.is at (narrowed (goal.at.returns-in-Failed c).After-demand_at-x) in
-    go c.end_with.result c.end_with.ensures
+returns-in-Failed c = let go = rw c.in-Failed.is at (narrowed (goal.at.returns-in-Failed c).After-demand_at) in
+    go _ c.end_with.result c.end_with.ensures
 
 pub returns-in-Single : goal.returns-in-Single
-returns-in-Single c = let go = rw c.in-Single.is at (narrowed (goal.at.returns-in-Single c).After-demand_at-x) in
-    go c.end_with-in-Single.result c.end_with-in-Single.ensures
+returns-in-Single c = let go = rw c.in-Single.is at (narrowed (goal.at.returns-in-Single c).After-demand_at) in
+    go _ c.end_with-in-Single.result c.end_with-in-Single.ensures
 
 pub returns-in-Bucket : goal.returns-in-Bucket
-returns-in-Bucket c = let go = rw c.in-Bucket.is at (narrowed (goal.at.returns-in-Bucket c).After-demand_at-x) in
+returns-in-Bucket c = let go = rw c.in-Bucket.is at (narrowed (goal.at.returns-in-Bucket c).After-demand_at) in
     let f = c.finish-f in
-    go f.new.clauses f.result c.end_with-in-Bucket.result f.ensures.result_value f.ensures.clauses_after f.ensures.count_le_m c.end_with-in-Bucket.ensures
+    let k = bucket (goal.at.returns-in-Bucket c).In-Bucket in
+    let old : length (take c.in-Bucket.k c.demand_at.new.clauses) ≡ c.in-Bucket.k = length-take-le c.in-Bucket.k c.demand_at.new.clauses k.0 in
+    let len : length f.new.clauses ≡ length (take c.in-Bucket.k (c.demand_at.new.clauses ++ drop c.read_line-m.result c.read_line-m.new.list)) = search rules in
+    go _ k.1 _ f.result c.end_with-in-Bucket.result f.ensures.result_value
+    (front-of f.result.count f.new.clauses _ _ (omega (arith, len, f.ensures.count_le_len)) f.ensures.clauses_after)
+    (omega (arith, f.ensures.count_le_len, ap length k.1, old)) c.end_with-in-Bucket.ensures

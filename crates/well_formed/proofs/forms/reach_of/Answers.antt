@@ -14,8 +14,8 @@ returns-then-is_internal c =
     let h : a.word < 4294967296 = omega arith in
     rw (pointer-int a.word (sym i ∙ c.if-is_internal.true) h, ← c.distance.ensures) c.inner_reach.ensures
 
-pub returns : goal.returns
+pub returns-else-is_internal : goal.returns-else-is_internal
 unfolding reach_in
-returns c = let a = c.args in
+returns-else-is_internal c = let a = c.args in
     let i = c.is_internal.ensures in
     rw (pointer-ext a.word (sym i ∙ c.if-is_internal.false)) c.outer_reach.ensures

@@ -6,8 +6,5 @@ use Rattle.well_formed.proofs.ChainLaws.{ReadFrom}
 use Rattle.well_formed.proofs.keys.distinct_chained.Given as goal
 
 abbrev pub invariant-loop-i : goal.invariant-loop-i
-invariant-loop-i l = (l.from ≤ l.i) × (l.i ≤ l.to) × (length l.heads ≡ length l.initial.heads) × (length l.links ≡ length l.initial.links)
-    × ReadFrom (records_of l.index) l.to l.heads l.links l.i
-
-abbrev pub decreases-loop-i : goal.decreases-loop-i
-decreases-loop-i l = l.i
+invariant-loop-i l = (l.i ≤ length (records_of l.entries)) × (length l.heads ≡ length l.initial.heads) × (length l.links ≡ length l.initial.links)
+    × ReadFrom (records_of l.entries) l.heads l.links l.i

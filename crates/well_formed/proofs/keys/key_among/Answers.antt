@@ -1,8 +1,9 @@
 -- One of the entries that are left has the key where one of all has it. Assumes nothing.
-use Prim.Native.Nat.{◌+◌}
+use Prim.Native.Nat.{◌+◌, ◌≤◌, ◌<◌}
 use mathlib.Core.Path.{◌≡◌}
 use mathlib.Core.Bool.{◌||◌}
-use lib.Seq.{slice}
+use native.Mathlib.Omega.{arith}
+use lib.ListN.{length, drop}
 use Rattle.records.specs.Records.{records_of}
 use Rattle.well_formed.specs.Pass.{among}
 use Rattle.well_formed.proofs.KeyParts.{among-step, among_none}
@@ -13,11 +14,13 @@ use Rattle.well_formed.proofs.keys.key_among.Goals as goal
 turn : (c : After-key_at)
     →
     let a = c.args in
-    let rs = records_of a.index.now in
-    (c.key_at.result || among a.r (slice (c.loop-i.i + 1) a.to rs)) ≡ among a.r (slice a.from a.to rs)
+    let rs = records_of a.entries.now in
+    (c.key_at.result || among a.r (drop (c.loop-i.i + 1) rs)) ≡ among a.r rs
 turn c =
     let a = c.args in
-    rw (among-step a.r (records_of a.index.now) _ _ c.loop-i-test.true c.requires, ← c.key_at.ensures) at c.loop-i.invariant
+    let rs = records_of a.entries.now in
+    let h : c.loop-i.i < length rs = omega (arith, c.loop-i-test.true, c.capacity-i-end.ensures) in
+    rw (among-step a.r rs _ h, ← c.key_at.ensures) at c.loop-i.invariant
 
 pub returns-then-key_at : goal.returns-then-key_at
 returns-then-key_at c = rw c.if-key_at.true at (turn (goal.at.returns-then-key_at c).After-key_at)
@@ -26,4 +29,7 @@ pub loop-i-preserved : goal.loop-i-preserved
 loop-i-preserved c = rw c.if-key_at.false at (turn (goal.at.loop-i-preserved c).After-key_at)
 
 pub returns : goal.returns
-returns c = rw (among_none _ _ _ _ c.loop-i-test.false) at c.loop-i.invariant
+returns c =
+    let rs = records_of c.args.entries.now in
+    let h : length rs ≤ c.loop-i.i = omega (arith, c.loop-i-test.false, c.capacity-i-end.ensures) in
+    rw (among_none _ rs _ h) at c.loop-i.invariant

@@ -1,9 +1,0 @@
--- The lower of two. Assumes nothing.
-use borrow.Author.Tests.{le-ltb, lt-ltb}
-use Rattle.well_formed.proofs.forms.lower.Goals as goal
-
-pub returns-then-a-b : goal.returns-then-a-b
-returns-then-a-b c = simp (lt-ltb _ _ c.if-a-b.true)
-
-pub returns : goal.returns
-returns c = simp (le-ltb _ _ c.if-a-b.false)
