@@ -4,6 +4,7 @@
 
 pub mod calls;
 pub mod case;
+pub mod query;
 pub mod stored;
 pub mod stored_index;
 pub mod unstored;

@@ -152,14 +152,13 @@ fn has_key(r: Rec, q: OptArgIndexKey) -> bool
     indexing_iter::same_key(crate::calls::key_from(r.sub, r.half, r.long), q)
 }
 
-// How many of the entries from one place up to another are of group g.
-fn count_group(index: &[u8], from: usize, to: usize, g: Option<Group>) -> usize
-    requires { (from ≤ to) × (to ≤ length (records_of index.now)) }
-    ensures { result ≡ count_of (in_group (group_code g)) (slice from to (records_of index.now)) }
+// How many of the entries are of group g.
+fn count_group(entries: &[u8], g: Option<Group>) -> usize
+    ensures { result ≡ count_of (in_group (group_code g)) (records_of entries.now) }
 {
     let mut count = 0;
-    for i in from..to {
-        if in_group(records::get(index, i), g) {
+    for i in 0..records::capacity(entries) {
+        if in_group(records::get(entries, i), g) {
             count += 1;
         }
     }
@@ -173,7 +172,8 @@ pub fn choose_entry(index: &[u8], from: usize, to: usize, q: OptArgIndexKey) -> 
     ensures { result ≡ choose_rec q (slice from to (records_of index.now)) }
 {
     let g = indexing_iter::group_of(q);
-    let count = count_group(index, from, to, g);
+    let entries = records::part(index, from, to);
+    let count = count_group(entries, g);
     if count == 0 {
         return Chosen::Nothing;
     }

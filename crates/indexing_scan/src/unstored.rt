@@ -5,16 +5,16 @@ ghost use Rattle.indexing_iter.specs.Classes.{class_of};
 ghost use Rattle.indexing_iter.specs.declared.OptArgIndexKey.{OptArgIndexKey};
 ghost use Rattle.indexing_iter.specs.Keys.{is_open};
 ghost use Rattle.indexing_iter.specs.Clauses.{key_of, known};
-ghost use Rattle.indexing_iter.specs.Refusals.{passed};
 ghost use Rattle.indexing.specs.Lists.{keep, every};
 ghost use Rattle.indexing.specs.Build.{program_of, open_at, virtual};
-ghost use Rattle.indexing_scan.specs.Calls.{check_call, call_of};
+ghost use Rattle.indexing_scan.specs.Calls.{call_of};
 ghost use Rattle.indexing_scan.specs.ByArgument.{move, answer_from};
 ghost use Rattle.indexing_scan.specs.Walk.{demand, follow_new, choose, unstored};
 ghost use Rattle.indexing_scan.specs.Unstored.{move_of, Held, any_open, alike, all_same, entered_by, empty_by, finished_by};
 ghost use Rattle.indexing_scan.specs.Tests.{Computes};
 
 use crate::case::Case;
+use crate::query::Query;
 use indexing_iter::OptArgIndexKey;
 use indexing_iter::group::Group;
 use indexing_iter::program::Program;
@@ -191,22 +191,21 @@ pub fn narrow(program: &Program, clauses: &mut [u32], a: u32, q: OptArgIndexKey)
 
 // The answer from argument a on, in a line of these clauses that is not stored. The clauses of the answer are moved to
 // the front of the list.
-pub fn finish(program: &Program, call: &[u8], clauses: &mut [u32], a: u32) -> Finished
-    requires call_value { check_call program.now.settings.arity call.now ≡ passed }
-    requires clauses_value { every (known program.now.starts.now) clauses.old ≡ true }
-    requires le_a { (1 ≤ a) × (a ≤ program.now.settings.arity + 1) }
-    ensures result_value { let P = program_of class_of program.now.settings (records_of program.now.code.now) program.now.starts.now in
-        result ≡ finished_by (answer_from P (call_of call.now) (program.now.settings.arity + 1 - a) a [] (unstored clauses.old)) }
-    ensures clauses_after { let P = program_of class_of program.now.settings (records_of program.now.code.now) program.now.starts.now in
-        let A = answer_from P (call_of call.now) (program.now.settings.arity + 1 - a) a [] (unstored clauses.old) in
+pub fn finish(query: &Query, clauses: &mut [u32], a: u32) -> Finished
+    requires clauses_value { every (known query.now.program.starts.now) clauses.old ≡ true }
+    requires le_a { (1 ≤ a) × (a ≤ query.now.program.settings.arity + 1) }
+    ensures result_value { let P = program_of class_of query.now.program.settings (records_of query.now.program.code.now) query.now.program.starts.now in
+        result ≡ finished_by (answer_from P (call_of query.now.call.now) (query.now.program.settings.arity + 1 - a) a [] (unstored clauses.old)) }
+    ensures clauses_after { let P = program_of class_of query.now.program.settings (records_of query.now.program.code.now) query.now.program.starts.now in
+        let A = answer_from P (call_of query.now.call.now) (query.now.program.settings.arity + 1 - a) a [] (unstored clauses.old) in
         take result.count clauses.new ≡ A.offsets }
     ensures count_le_len { result.count ≤ length clauses.old }
 {
     let mut count = clauses.len();
     let mut tables = 0;
-    for b in a..=program.settings.arity {
-        let q = crate::calls::call_key(call, b);
-        match narrow(program, &mut clauses[..count], b, q) {
+    for b in a..=query.program.settings.arity {
+        let q = crate::calls::call_key(query.call, b);
+        match narrow(&query.program, &mut clauses[..count], b, q) {
             Narrowed::NoTable => {}
             Narrowed::Passed(_) => {
                 tables += 1;

@@ -3,13 +3,13 @@ ghost use Rattle.std.specs.Prelude.{◌≡◌, true};
 ghost use Rattle.records.specs.Records.{records_of};
 ghost use Rattle.indexing_iter.specs.Classes.{class_of};
 ghost use Rattle.indexing_iter.specs.Clauses.{known};
-ghost use Rattle.indexing_iter.specs.Refusals.{passed};
 ghost use Rattle.indexing.specs.Build.{program_of};
 ghost use Rattle.indexing_scan.specs.Agree.{agree_at, agree};
-ghost use Rattle.indexing_scan.specs.Calls.{check_call, call_of, witness_checks, agreeing};
+ghost use Rattle.indexing_scan.specs.Calls.{call_of, witness_checks, agreeing};
 ghost use Rattle.indexing_scan.specs.Witness.{Witnesses, first_of};
 
 use crate::calls;
+use crate::query::Query;
 use indexing_iter::program::Program;
 use indexing_iter::refusal::Refusal;
 use indexing_iter::{OptArgIndexKey, Settings};
@@ -22,14 +22,13 @@ fn agree_at(q: OptArgIndexKey, k: OptArgIndexKey) -> bool
 }
 
 // Whether the clause at a known offset agrees with the call at every argument.
-fn agrees(program: &Program, call: &[u8], offset: u32) -> bool
-    requires call_value { check_call program.now.settings.arity call.now ≡ passed }
-    requires offset_value { known program.now.starts.now offset ≡ true }
-    ensures { result ≡ agree (program_of class_of program.now.settings (records_of program.now.code.now) program.now.starts.now) (call_of call.now) offset }
+fn agrees(query: &Query, offset: u32) -> bool
+    requires { known query.now.program.starts.now offset ≡ true }
+    ensures { result ≡ agree (program_of class_of query.now.program.settings (records_of query.now.program.code.now) query.now.program.starts.now) (call_of query.now.call.now) offset }
 {
-    for a in 1..=program.settings.arity {
-        let q = calls::call_key(call, a);
-        if !agree_at(q, indexing_iter::key_of(program, offset, a)) {
+    for a in 1..=query.program.settings.arity {
+        let q = calls::call_key(query.call, a);
+        if !agree_at(q, indexing_iter::key_of(&query.program, offset, a)) {
             return false;
         }
     }
@@ -37,13 +36,12 @@ fn agrees(program: &Program, call: &[u8], offset: u32) -> bool
 }
 
 // The offset of the first clause that agrees with the call.
-fn first_agreeing(program: &Program, call: &[u8]) -> Option<u32>
-    requires { check_call program.now.settings.arity call.now ≡ passed }
-    ensures { result ≡ first_of (agreeing class_of program.now.code.now program.now.starts.now program.now.settings call.now) }
+fn first_agreeing(query: &Query) -> Option<u32>
+    ensures { result ≡ first_of (agreeing class_of query.now.program.code.now query.now.program.starts.now query.now.program.settings query.now.call.now) }
 {
-    for start in program.starts {
+    for start in query.program.starts {
         let offset = *start + 1;
-        if agrees(program, call, offset) {
+        if agrees(query, offset) {
             return Some(offset);
         }
     }
@@ -63,5 +61,6 @@ pub fn witness(
 {
     let program = Program::check(code, starts, settings)?;
     calls::check_call(call, settings.arity)?;
-    Ok(first_agreeing(&program, call))
+    let query = Query { program, call };
+    Ok(first_agreeing(&query))
 }

@@ -12,7 +12,7 @@ ghost use Rattle.indexing_iter.specs.Refusals.{passed};
 ghost use Rattle.indexing_iter.specs.Clauses.{known};
 ghost use Rattle.indexing.specs.Builder.{capacity_of};
 ghost use Rattle.well_formed.specs.WellFormed.{well_formed};
-ghost use Rattle.indexing_scan.specs.Calls.{check_call, check_index, walked_by, result_of, walk_call};
+ghost use Rattle.indexing_scan.specs.Calls.{check_index, walked_by, result_of, walk_call};
 ghost use Rattle.indexing_walk.specs.Answers.{told_by, walked_of};
 ghost use Rattle.indexing_walk.specs.Walking.{Stands, Walks};
 
@@ -20,6 +20,7 @@ use indexing_iter::Settings;
 use indexing_iter::program::Program;
 use indexing_iter::refusal::Refusal;
 use indexing_scan::case::Case;
+use indexing_scan::query::Query;
 use std::ops::ControlFlow;
 
 // What a switch leads to: nothing, a clause, or a line by its number and the place of its first table.
@@ -31,7 +32,8 @@ pub enum Looked {
 }
 
 // Where a walk is: its line, its place, the first argument whose table may be left, the records and lines of the index, whether
-// expansions are stored, and the tables looked at.
+// expansions are stored, and the tables looked at. The contracts say that these are at most 64, and no ghost field does: the definitions
+// count one more table at any number.
 #[derive(Clone, Copy)]
 pub struct Walking {
     pub line: u32,
@@ -56,20 +58,18 @@ pub struct Ended {
 
 // The walk from where it stands: turns until it has ended. The answer's offsets are put at the front of the list.
 fn walk_lines(
-    program: &Program,
-    call: &[u8],
+    query: &Query,
     index: &mut [u8],
     first: Walking,
     list: &mut [u32; 1024],
     tags: &mut [u8; 1024],
 ) -> Ended
-    requires call_value { check_call program.now.settings.arity call.now ≡ passed }
-    requires stands { Stands program.now.settings program.now.starts.now index.old first }
-    ensures { Walks program.now.code.now program.now.starts.now program.now.settings call.now index.old first index.new list.new result }
+    requires { Stands query.now.program.settings query.now.program.starts.now index.old first }
+    ensures { Walks query.now.program.code.now query.now.program.starts.now query.now.program.settings query.now.call.now index.old first index.new list.new result }
 {
     let mut w = first;
     loop {
-        match turns::turn(program, call, index, w, list, tags) {
+        match turns::turn(query, index, w, list, tags) {
             ControlFlow::Continue(v) => {
                 w = v;
             }
@@ -81,18 +81,11 @@ fn walk_lines(
 }
 
 // The walk of an index of count records, with lists of 1,024 clauses.
-fn walk_index(
-    program: &Program,
-    call: &[u8],
-    index: &mut [u8],
-    count: usize,
-    out: &mut [u32],
-) -> Ended
-    requires call_value { check_call program.now.settings.arity call.now ≡ passed }
-    requires starts_in_bounds { length program.now.starts.now ≤ length out.old }
-    requires count_bound { (count ≤ capacity_of index.old) × (well_formed program.now.settings.arity program.now.settings.dynamic (known program.now.starts.now) (take count (records_of index.old)) ≡ true) }
+fn walk_index(query: &Query, index: &mut [u8], count: usize, out: &mut [u32]) -> Ended
+    requires starts_in_bounds { length query.now.program.starts.now ≤ length out.old }
+    requires count_bound { (count ≤ capacity_of index.old) × (well_formed query.now.program.settings.arity query.now.program.settings.dynamic (known query.now.program.starts.now) (take count (records_of index.old)) ≡ true) }
     ensures { told_by result index.new out.new
-        ≡ walked_by passed program.now.settings (result_of class_of program.now.code.now program.now.starts.now program.now.settings call.now index.old count) index.old out.old }
+        ≡ walked_by passed query.now.program.settings (result_of class_of query.now.program.code.now query.now.program.starts.now query.now.program.settings query.now.call.now index.old count) index.old out.old }
 {
     let lines = well_formed::count_lines(index, count);
     let first = Walking {
@@ -106,7 +99,7 @@ fn walk_index(
     };
     let mut list = [0u32; 1024];
     let mut tags = [0u8; 1024];
-    let e = walk_lines(program, call, index, first, &mut list, &mut tags);
+    let e = walk_lines(query, index, first, &mut list, &mut tags);
     out[..e.count].copy_from_slice(&list[..e.count]);
     e
 }
@@ -145,5 +138,6 @@ pub fn switch_on_term(
     indexing_scan::calls::check_call(call, settings.arity)?;
     indexing_scan::calls::check_out(starts, out)?;
     check_index(&program, index, count)?;
-    Ok(walk_index(&program, call, index, count, out))
+    let query = Query { program, call };
+    Ok(walk_index(&query, index, count, out))
 }

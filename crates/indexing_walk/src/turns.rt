@@ -2,10 +2,9 @@
 ghost use Rattle.std.specs.Prelude.{◌≡◌, ◌+◌, ◌≤◌, ◌<◌, length, take, drop, get_or, cond, true, false, ◌++◌, eqb};
 ghost use Rattle.std.proofs.Math.Seq.{slice};
 ghost use Rattle.records.specs.Records.{records_of, zero_rec};
-ghost use Rattle.indexing_iter.specs.Refusals.{passed};
 ghost use Rattle.indexing_iter.specs.Keys.{is_open};
 ghost use Rattle.indexing_scan.specs.declared.case.Case.TheVariants.{Sequence, Variadic};
-ghost use Rattle.indexing_scan.specs.Calls.{check_call, call_of};
+ghost use Rattle.indexing_scan.specs.Calls.{call_of};
 ghost use Rattle.indexing.specs.Columns.{words_of};
 ghost use Rattle.indexing_scan.specs.Places.{is_table, behind_table, choose_rec, first_offset, offsets_at};
 ghost use Rattle.indexing_walk.specs.Walking.{followed_by, looked_by, moved_to, ended_by, turned_by, ListedBy, Stands, Turns};
@@ -13,8 +12,8 @@ ghost use Rattle.indexing_walk.specs.Walking.{followed_by, looked_by, moved_to, 
 use crate::{Ended, Looked, Walking, store};
 use indexing::kinds::Kind;
 use indexing_iter::OptArgIndexKey;
-use indexing_iter::program::Program;
 use indexing_scan::case::Case;
+use indexing_scan::query::Query;
 use indexing_scan::stored::Chosen;
 use indexing_scan::stored_index::Stored;
 use indexing_scan::unstored::Narrowed;
@@ -143,33 +142,31 @@ fn pass_table(index: &[u8], w: Walking, a: u32) -> Walking
 // The turn at an on-demand table for argument a, with the bound key q, where nothing is stored any more: the answer is worked out from the
 // clauses of the line.
 fn turn_unstored(
-    program: &Program,
-    call: &[u8],
+    query: &Query,
     index: &[u8],
     w: Walking,
     a: u32,
     q: OptArgIndexKey,
     list: &mut [u32; 1024],
 ) -> ControlFlow<Ended, Walking>
-    requires call_value { check_call program.now.settings.arity call.now ≡ passed }
-    requires stands { Stands program.now.settings program.now.starts.now index.now w }
-    requires off { (w.storing ≡ false) × (w.tables ≤ 64) × (1 ≤ a) × (a ≤ program.now.settings.arity) × (program.now.settings.arity ≤ 32) }
+    requires stands { Stands query.now.program.settings query.now.program.starts.now index.now w }
+    requires off { w.storing ≡ false }
     requires zero_rec_value { ((get_or (take w.count (records_of index.now)) w.at zero_rec).kind ≡ 3) × (a ≡ (get_or (take w.count (records_of index.now)) w.at zero_rec).half) }
-    requires q_value { (q ≡ call_of call.now a) × (is_open q ≡ false) }
-    ensures { Turns program.now.code.now program.now.starts.now program.now.settings call.now index.now w index.now list.new result }
+    requires q_value { (q ≡ call_of query.now.call.now a) × (is_open q ≡ false) }
+    ensures { Turns query.now.program.code.now query.now.program.starts.now query.now.program.settings query.now.call.now index.now w index.now list.new result }
 {
     let stored = Stored {
         index,
         count: w.count,
     };
     let m = read_line(&stored, w.at, list);
-    match indexing_scan::unstored::demand_at(program, &mut list[..m], a, q) {
+    match indexing_scan::unstored::demand_at(&query.program, &mut list[..m], a, q) {
         Narrowed::NoTable => ControlFlow::Continue(w),
         Narrowed::Passed(_) => ControlFlow::Continue(pass_table(index, w, a)),
         Narrowed::Failed => ControlFlow::Break(end_with(w, Case::Fail, 0, 0, 1)),
         Narrowed::Single(_, _) => ControlFlow::Break(end_with(w, Case::External, 0, 1, 1)),
         Narrowed::Bucket(_, k) => {
-            let f = indexing_scan::unstored::finish(program, call, &mut list[..k], a + 1);
+            let f = indexing_scan::unstored::finish(query, &mut list[..k], a + 1);
             ControlFlow::Break(end_with(w, f.case, 0, f.count, 1 + f.tables))
         }
     }
@@ -177,8 +174,7 @@ fn turn_unstored(
 
 // The turn at a table of that kind for argument a, with the bound key q.
 fn turn_bound(
-    program: &Program,
-    call: &[u8],
+    query: &Query,
     index: &mut [u8],
     w: Walking,
     kind: u8,
@@ -187,11 +183,10 @@ fn turn_bound(
     list: &mut [u32; 1024],
     tags: &mut [u8; 1024],
 ) -> ControlFlow<Ended, Walking>
-    requires call_value { check_call program.now.settings.arity call.now ≡ passed }
-    requires stands { Stands program.now.settings program.now.starts.now index.old w }
+    requires stands { Stands query.now.program.settings query.now.program.starts.now index.old w }
     requires kind_value { (kind ≡ (get_or (take w.count (records_of index.old)) w.at zero_rec).kind) × (a ≡ (get_or (take w.count (records_of index.old)) w.at zero_rec).half) }
-    requires kind_value_2 { (is_table kind ≡ true) × (q ≡ call_of call.now a) × (is_open q ≡ false) }
-    ensures { Turns program.now.code.now program.now.starts.now program.now.settings call.now index.old w index.new list.new result }
+    requires kind_value_2 { (is_table kind ≡ true) × (q ≡ call_of query.now.call.now a) × (is_open q ≡ false) }
+    ensures { Turns query.now.program.code.now query.now.program.starts.now query.now.program.settings query.now.call.now index.old w index.new list.new result }
 {
     if kind == Kind::Dead as u8 {
         return ControlFlow::Continue(pass_table(index, w, a));
@@ -205,23 +200,21 @@ fn turn_bound(
         return turn_by(w, a, x, list);
     }
     if w.storing {
-        return ControlFlow::Continue(store::turn_store(program, index, w, a, list, tags));
+        return ControlFlow::Continue(store::turn_store(&query.program, index, w, a, list, tags));
     }
-    turn_unstored(program, call, index, w, a, q, list)
+    turn_unstored(query, index, w, a, q, list)
 }
 
 // One turn of a walk.
 pub fn turn(
-    program: &Program,
-    call: &[u8],
+    query: &Query,
     index: &mut [u8],
     w: Walking,
     list: &mut [u32; 1024],
     tags: &mut [u8; 1024],
 ) -> ControlFlow<Ended, Walking>
-    requires call_value { check_call program.now.settings.arity call.now ≡ passed }
-    requires stands { Stands program.now.settings program.now.starts.now index.old w }
-    ensures { Turns program.now.code.now program.now.starts.now program.now.settings call.now index.old w index.new list.new result }
+    requires { Stands query.now.program.settings query.now.program.starts.now index.old w }
+    ensures { Turns query.now.program.code.now query.now.program.starts.now query.now.program.settings query.now.call.now index.old w index.new list.new result }
 {
     let r = records::record_in(index, w.count, w.at);
     let kind = r.kind;
@@ -229,9 +222,9 @@ pub fn turn(
         return ControlFlow::Break(end_line(index, w, list));
     }
     let a = r.half as u32;
-    let q = indexing_scan::calls::call_key(call, a);
+    let q = indexing_scan::calls::call_key(query.call, a);
     if indexing_iter::is_open(q) {
         return ControlFlow::Continue(pass_table(index, w, a));
     }
-    turn_bound(program, call, index, w, kind, a, q, list, tags)
+    turn_bound(query, index, w, kind, a, q, list, tags)
 }

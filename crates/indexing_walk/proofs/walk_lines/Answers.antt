@@ -17,7 +17,7 @@ returns-in-Break c = let l = c.loop-v in
     let list = d.new.list in
     let e = c.in-Break.e in (
       (λ W x. subst (λ (y : List ℕ). Ends y list W e) (sym g.1) (g.0 W (l.invariant.1 W x))),
-      (λ b₀ x. subst (λ (y : List ℕ). Kept c.args.program.now.settings b₀ y e.records) (sym g.1)
-          (subst (λ (y : ℕ). Kept c.args.program.now.settings b₀ l.index y) (sym g.2) (l.invariant.2 b₀ x))),
+      (λ b₀ x. subst (λ (y : List ℕ). Kept c.args.query.now.program.settings b₀ y e.records) (sym g.1)
+          (subst (λ (y : ℕ). Kept c.args.query.now.program.settings b₀ l.index y) (sym g.2) (l.invariant.2 b₀ x))),
       g.3,
     )

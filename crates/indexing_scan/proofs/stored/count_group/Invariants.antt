@@ -1,5 +1,6 @@
 use mathlib.Core.Path.{◌≡◌}
 use Prim.Native.Nat.{◌+◌, ◌≤◌}
+use lib.ListN.{length}
 use lib.Seq.{slice}
 use Rattle.records.specs.Records.{records_of}
 use Rattle.indexing_iter.specs.Groups.{group_code}
@@ -8,4 +9,4 @@ use Rattle.indexing_scan.proofs.stored.count_group.Given as goal
 
 abbrev pub invariant-loop-i : goal.invariant-loop-i
 invariant-loop-i l = (l.count ≤ l.i)
-    × (l.count + count_of (in_group (group_code l.g)) (slice l.i l.to (records_of l.index)) ≡ count_of (in_group (group_code l.g)) (slice l.from l.to (records_of l.index)))
+    × (l.count + count_of (in_group (group_code l.g)) (slice l.i (length (records_of l.entries)) (records_of l.entries)) ≡ count_of (in_group (group_code l.g)) (records_of l.entries))

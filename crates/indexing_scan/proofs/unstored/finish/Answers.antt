@@ -22,16 +22,16 @@ use Rattle.indexing_scan.proofs.unstored.finish.Goals as goal
 turn : (c : After-narrow)
     → let l = c.loop-b in
     let a = c.args in
-    let p = a.program.now in
+    let p = a.query.now.program in
     let P = program_of class_of p.settings (records_of p.code.now) p.starts.now in
-    let Q = call_of a.call.now in
+    let Q = call_of a.query.now.call.now in
     Stepped P Q (answer_from P Q (p.settings.arity + 1 - a.a) a.a [] (unstored a.clauses.now))
     l.tables l.b l.count c.narrow.new.clauses c.narrow.result
 turn c = let l = c.loop-b in
     let a = c.args in
-    let p = a.program.now in
+    let p = a.query.now.program in
     let P = program_of class_of p.settings (records_of p.code.now) p.starts.now in
-    let Q = call_of a.call.now in
+    let Q = call_of a.query.now.call.now in
     goes_step P Q p.starts.now (answer_from P Q (p.settings.arity + 1 - a.a) a.a [] (unstored a.clauses.now))
     l.tables l.b l.count l.clauses c.narrow.new.clauses c.call_key-q.result c.narrow.result l.invariant.fits
     l.invariant.goes c.loop-b-test.true c.call_key-q.ensures c.narrow.ensures.clauses_after c.narrow.ensures.held
@@ -45,14 +45,14 @@ narrowed c = let l = c.loop-b in
 stepped : (c : Joined-narrow)
     → let l = c.loop-b in
     let a = c.args in
-    let p = a.program.now in
+    let p = a.query.now.program in
     let P = program_of class_of p.settings (records_of p.code.now) p.starts.now in
-    let Q = call_of a.call.now in
+    let Q = call_of a.query.now.call.now in
     Finishing P Q p.starts.now (answer_from P Q (p.settings.arity + 1 - a.a) a.a [] (unstored a.clauses.now)) a.a (length a.clauses.now)
     (c.narrow.new.clauses ++ drop l.count l.clauses) c.match-narrow.count c.match-narrow.tables (l.b + 1)
 stepped c =
     let l = c.loop-b in
-    let p = c.args.program.now in
+    let p = c.args.query.now.program in
     let new = c.narrow.new.clauses in
     let h = held-front p.starts.now l.count l.clauses new c.narrow.result l.invariant.fits c.narrow.ensures.held in
     let on = finishing-next l.invariant c.loop-b-test.true new (narrowed c) in
@@ -69,10 +69,10 @@ stepped c =
 pub loop-b-init : goal.loop-b-init
 loop-b-init c =
     let a = c.args in
-    let p = a.program.now in
+    let p = a.query.now.program in
     let P = program_of class_of p.settings (records_of p.code.now) p.starts.now in
     record {
-      goes = rw (take-length a.clauses.now) (goes_first P (call_of a.call.now) a.a a.clauses.now);
+      goes = rw (take-length a.clauses.now) (goes_first P (call_of a.query.now.call.now) a.a a.clauses.now);
       first = search rules;
       last = search rules;
       few = omega arith;
@@ -85,7 +85,7 @@ loop-b-init c =
 pub call_key-q-requires : goal.call_key-q-requires
 call_key-q-requires c =
     let h = c.loop-b-test.true in
-    (c.loop-b.invariant.first, omega (arith, h, call-records c.args.program.now.settings.arity c.args.call.now c.requires.call_value))
+    (c.loop-b.invariant.first, omega (arith, h, call-records c.args.query.now.program.settings.arity c.args.query.now.call.now c.args.query.now.checked))
 
 pub returns-in-Failed : goal.returns-in-Failed
 returns-in-Failed c = let s = rw c.in-Failed.is at (turn (goal.at.returns-in-Failed c).After-narrow) in
@@ -100,7 +100,7 @@ returns-in-Single c =
     let l = c.loop-b in
     let new = c.narrow.new.clauses in
     let s = rw c.in-Single.is at (turn (goal.at.returns-in-Single c).After-narrow) in
-    let h = held-front c.args.program.now.starts.now l.count l.clauses new c.narrow.result l.invariant.fits c.narrow.ensures.held in
+    let h = held-front c.args.query.now.program.starts.now l.count l.clauses new c.narrow.result l.invariant.fits c.narrow.ensures.held in
     let v = (rw c.in-Single.is at h).0 in
     let n = length-take-le l.count l.clauses l.invariant.fits in
     record {
@@ -115,9 +115,9 @@ loop-b-preserved c = stepped (goal.at.loop-b-preserved c).Joined-narrow
 pub returns : goal.returns
 returns c = let l = c.loop-b in
     let a = c.args in
-    let p = a.program.now in
+    let p = a.query.now.program in
     let P = program_of class_of p.settings (records_of p.code.now) p.starts.now in
-    let Q = call_of a.call.now in
+    let Q = call_of a.query.now.call.now in
     let e = goes_end P Q (answer_from P Q (p.settings.arity + 1 - a.a) a.a [] (unstored a.clauses.now))
     l.tables l.b l.count l.clauses l.invariant.goes (search rules) l.invariant.fits in
     record {
@@ -129,9 +129,9 @@ returns c = let l = c.loop-b in
 pub returns-after-narrow : goal.returns-after-narrow
 returns-after-narrow c = let l = c.loop-b in
     let a = c.args in
-    let p = a.program.now in
+    let p = a.query.now.program in
     let P = program_of class_of p.settings (records_of p.code.now) p.starts.now in
-    let Q = call_of a.call.now in
+    let Q = call_of a.query.now.call.now in
     let s = stepped (goal.at.returns-after-narrow c).Joined-narrow in
     let e = goes_end P Q (answer_from P Q (p.settings.arity + 1 - a.a) a.a [] (unstored a.clauses.now))
     c.match-narrow.tables (l.b + 1) c.match-narrow.count (c.narrow.new.clauses ++ drop l.count l.clauses) s.goes (omega arith) s.fits in

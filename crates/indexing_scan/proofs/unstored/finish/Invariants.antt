@@ -11,7 +11,7 @@ use Rattle.indexing_scan.proofs.UnstoredLaws.{Finishing}
 use Rattle.indexing_scan.proofs.unstored.finish.Given as goal
 
 abbrev pub invariant-loop-b : goal.invariant-loop-b
-invariant-loop-b l = let p = l.program in
+invariant-loop-b l = let p = l.query.program in
     let P = program_of class_of p.settings (records_of p.code.now) p.starts.now in
-    let A = answer_from P (call_of l.call) (p.settings.arity + 1 - l.a) l.a [] (unstored l.initial.clauses) in
-    Finishing P (call_of l.call) p.starts.now A l.a (length l.initial.clauses) l.clauses l.count l.tables l.b
+    let A = answer_from P (call_of l.query.call.now) (p.settings.arity + 1 - l.a) l.a [] (unstored l.initial.clauses) in
+    Finishing P (call_of l.query.call.now) p.starts.now A l.a (length l.initial.clauses) l.clauses l.count l.tables l.b

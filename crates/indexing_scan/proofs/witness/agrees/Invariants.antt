@@ -8,5 +8,5 @@ use Rattle.indexing_scan.proofs.WitnessLaws.{agrees_at}
 use Rattle.indexing_scan.proofs.witness.agrees.Given as goal
 
 abbrev pub invariant-loop-a : goal.invariant-loop-a
-invariant-loop-a l = let P = program_of class_of l.program.settings (records_of l.program.code.now) l.program.starts.now in
-    agrees_at P (call_of l.call) l.offset l.a ≡ agree P (call_of l.call) l.offset
+invariant-loop-a l = let P = program_of class_of l.query.program.settings (records_of l.query.program.code.now) l.query.program.starts.now in
+    agrees_at P (call_of l.query.call.now) l.offset l.a ≡ agree P (call_of l.query.call.now) l.offset

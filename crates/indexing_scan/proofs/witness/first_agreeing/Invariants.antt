@@ -12,6 +12,6 @@ use Rattle.indexing_scan.proofs.witness.first_agreeing.Given as goal
 
 abbrev pub invariant-loop-start : goal.invariant-loop-start
 invariant-loop-start l =
-    let p = l.program in
-    first_of (keep (agree (program_of class_of p.settings (records_of p.code.now) p.starts.now) (call_of l.call)) (offsets_of (drop l.start-index p.starts.now)))
-    ≡ first_of (agreeing class_of p.code.now p.starts.now p.settings l.call)
+    let p = l.query.program in
+    first_of (keep (agree (program_of class_of p.settings (records_of p.code.now) p.starts.now) (call_of l.query.call.now)) (offsets_of (drop l.start-index p.starts.now)))
+    ≡ first_of (agreeing class_of p.code.now p.starts.now p.settings l.query.call.now)

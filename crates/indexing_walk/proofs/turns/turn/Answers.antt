@@ -13,8 +13,8 @@ use Rattle.indexing_walk.proofs.turns.turn.Goals.{Else-not-is_table, Start, Then
 use Rattle.indexing_walk.proofs.turns.turn.Goals as goal
 
 -- the walk stands in the buffer, in checked code
-ready : (s : Start) → Ready s.args.program.now.code.now s.args.program.now.starts.now s.args.program.now.settings s.args.index.now s.args.w
-ready s = record { checked = s.args.program.now.checked; stands = s.requires.stands }
+ready : (s : Start) → Ready s.args.query.now.program.code.now s.args.query.now.program.starts.now s.args.query.now.program.settings s.args.index.now s.args.w
+ready s = record { checked = s.args.query.now.program.checked; stands = s.requires }
 
 -- the record at its place is no table's
 no_table : (c : Then-not-is_table) → is_table c.record_in-r.result.kind ≡ false
@@ -26,10 +26,10 @@ is_one c = sym c.is_table.ensures ∙ c.if-not-is_table.false
 
 table : (c : Else-not-is_table)
     → let a = c.args in
-    AtTable a.program.now.code.now a.program.now.starts.now a.program.now.settings a.index.now a.w c.record_in-r.result.half
+    AtTable a.query.now.program.code.now a.query.now.program.starts.now a.query.now.program.settings a.index.now a.w c.record_in-r.result.half
 table c =
     let is = c.record_in-r.ensures in
-    record { ready = record { checked = c.args.program.now.checked; stands = c.requires.stands }; half = ap (λ x. x.half) is; table = ap (λ x. is_table x.kind) (sym is) ∙ is_one c }
+    record { ready = record { checked = c.args.query.now.program.checked; stands = c.requires }; half = ap (λ x. x.half) is; table = ap (λ x. is_table x.kind) (sym is) ∙ is_one c }
 
 pub record_in-r-requires : goal.record_in-r-requires
 record_in-r-requires c = (place_in (ready (goal.at.record_in-r-requires c).Start)).1
@@ -47,17 +47,17 @@ pub returns-then-not-is_table : goal.returns-then-not-is_table
 returns-then-not-is_table c =
     let d = c.record_in-r in
     let e = c.end_line in
-    turn_end (ready (goal.at.returns-then-not-is_table c).Start) d.result d.ensures (no_table (goal.at.returns-then-not-is_table c).Then-not-is_table) c.args.call.now e.new.list c.args.list.now e.result e.ensures.value e.ensures.list_after
+    turn_end (ready (goal.at.returns-then-not-is_table c).Start) d.result d.ensures (no_table (goal.at.returns-then-not-is_table c).Then-not-is_table) c.args.query.now.call.now e.new.list c.args.list.now e.result e.ensures.value e.ensures.list_after
 
 pub call_key-q-requires : goal.call_key-q-requires
 call_key-q-requires c =
     let r = table-range (table (goal.at.call_key-q-requires c).Else-not-is_table) in
-    (r.0, omega (arith, r.1, call-records c.args.program.now.settings.arity c.args.call.now c.requires.call_value))
+    (r.0, omega (arith, r.1, call-records c.args.query.now.program.settings.arity c.args.query.now.call.now c.args.query.now.checked))
 
 pub pass_table-requires : goal.pass_table-requires
 pass_table-requires c = to-pass (table (goal.at.pass_table-requires c).Else-not-is_table)
 
 pub returns-then-is_open : goal.returns-then-is_open
 returns-then-is_open c = let k = c.call_key-q in
-    turn-open (table (goal.at.returns-then-is_open c).Else-not-is_table) c.args.call.now k.result k.ensures (sym c.is_open.ensures ∙ c.if-is_open.true)
+    turn-open (table (goal.at.returns-then-is_open c).Else-not-is_table) c.args.query.now.call.now k.result k.ensures (sym c.is_open.ensures ∙ c.if-is_open.true)
     c.pass_table.result c.pass_table.ensures

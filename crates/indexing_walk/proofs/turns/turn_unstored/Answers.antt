@@ -11,41 +11,52 @@ use Rattle.indexing_iter.specs.Clauses.{known}
 use Rattle.indexing.specs.Build.{program_of}
 use Rattle.indexing.specs.Lists.{every}
 use Rattle.indexing_scan.specs.Calls.{call_of}
+use Rattle.indexing_scan.specs.Places.{is_table}
 use Rattle.indexing_scan.specs.Walk.{unstored}
 use Rattle.indexing_scan.specs.declared.unstored.Finished.{Finished}
-use Rattle.indexing_walk.proofs.StandLaws.{AtDemand}
-use Rattle.indexing_walk.proofs.LineLaws.{LineRead, place_in, room, line_read}
+use Rattle.indexing_walk.proofs.StandLaws.{AtDemand, Ready}
+use Rattle.indexing_walk.proofs.LineLaws.{LineRead, place_in, room, line_read, arity-32}
+use Rattle.indexing_walk.proofs.ReadyLaws.{small, table-range, to-pass}
+use Rattle.indexing_walk.proofs.TurnLaws.{AtTable}
 use Rattle.indexing_walk.proofs.NarrowLaws.{Narrows, front-of, narrows, path-few}
 use borrow.Author.Rules.{rules}
 use Rattle.indexing_walk.proofs.turns.turn_unstored.Goals.{After-demand_at, After-finish-f, After-read_line-m, In-Bucket, Start}
 use Rattle.indexing_walk.proofs.turns.turn_unstored.Goals as goal
 
 -- the walk is at an on-demand table, in checked code
-due : (s : Start) → AtDemand s.args.program.now.code.now s.args.program.now.starts.now s.args.program.now.settings s.args.index.now s.args.w s.args.a
+due : (s : Start) → AtDemand s.args.query.now.program.code.now s.args.query.now.program.starts.now s.args.query.now.program.settings s.args.index.now s.args.w s.args.a
 due s = let at = s.requires.zero_rec_value in
-    record { ready = record { checked = s.args.program.now.checked; stands = s.requires.stands }; kind = at.0; half = at.1 }
+    record { ready = record { checked = s.args.query.now.program.checked; stands = s.requires.stands }; kind = at.0; half = at.1 }
+
+-- a table's argument is one of the few
+table : (s : Start) → AtTable s.args.query.now.program.code.now s.args.query.now.program.starts.now s.args.query.now.program.settings s.args.index.now s.args.w s.args.a
+table s = let at = s.requires.zero_rec_value in
+    record { ready = record { checked = s.args.query.now.program.checked; stands = s.requires.stands }; half = at.1; table = ap is_table at.0 }
+
+one-more : (s : Start) → (s.args.w.tables ≤ 64) × (1 ≤ 64)
+one-more s = ((small (table s).ready).0, omega arith)
 
 -- the offsets of its line are read
 read : (c : After-read_line-m)
-    → let a = c.args in LineRead a.program.now.starts.now a.index.now a.w (take c.read_line-m.result c.read_line-m.new.list)
+    → let a = c.args in LineRead a.query.now.program.starts.now a.index.now a.w (take c.read_line-m.result c.read_line-m.new.list)
 read c =
     let a = c.args in
-    let due : AtDemand a.program.now.code.now a.program.now.starts.now a.program.now.settings a.index.now a.w a.a =
-    record { ready = record { checked = a.program.now.checked; stands = c.requires.stands }; kind = c.requires.zero_rec_value.0; half = c.requires.zero_rec_value.1 } in
+    let due : AtDemand a.query.now.program.code.now a.query.now.program.starts.now a.query.now.program.settings a.index.now a.w a.a =
+    record { ready = record { checked = a.query.now.program.checked; stands = c.requires.stands }; kind = c.requires.zero_rec_value.0; half = c.requires.zero_rec_value.1 } in
     let r = c.read_line-m in
     line_read due.ready r.result r.new.list c.args.list.now r.ensures.0 r.ensures.1
 
 -- and narrowed at the table's argument
 narrowed : (c : After-demand_at)
     → let a = c.args in
-    Narrows a.program.now.code.now a.program.now.starts.now a.program.now.settings a.call.now a.index.now a.w a.a c.demand_at.new.clauses c.demand_at.result
+    Narrows a.query.now.program.code.now a.query.now.program.starts.now a.query.now.program.settings a.query.now.call.now a.index.now a.w a.a c.demand_at.new.clauses c.demand_at.result
 narrowed c =
     let a = c.args in
-    let due : AtDemand a.program.now.code.now a.program.now.starts.now a.program.now.settings a.index.now a.w a.a =
-    record { ready = record { checked = a.program.now.checked; stands = c.requires.stands }; kind = c.requires.zero_rec_value.0; half = c.requires.zero_rec_value.1 } in
+    let due : AtDemand a.query.now.program.code.now a.query.now.program.starts.now a.query.now.program.settings a.index.now a.w a.a =
+    record { ready = record { checked = a.query.now.program.checked; stands = c.requires.stands }; kind = c.requires.zero_rec_value.0; half = c.requires.zero_rec_value.1 } in
     let r = c.read_line-m in
     let d = c.demand_at in
-    narrows due c.args.call.now c.args.q c.requires.q_value.0 c.requires.q_value.1 c.requires.off.0
+    narrows due c.args.query.now.call.now c.args.q c.requires.q_value.0 c.requires.q_value.1 c.requires.off
     d.new.clauses (take r.result r.new.list) d.result (line_read due.ready r.result r.new.list c.args.list.now r.ensures.0 r.ensures.1) d.ensures.clauses_after d.ensures.held
 
 pub invariant_of-stored : goal.invariant_of-stored
@@ -55,8 +66,8 @@ invariant_of-stored c = record { within = (place_in (due (goal.at.invariant_of-s
 in_list : (c : After-read_line-m) → (c.read_line-m.result ≤ 1024) × (c.read_line-m.result ≤ length c.read_line-m.new.list)
 in_list c =
     let a = c.args in
-    let due : AtDemand a.program.now.code.now a.program.now.starts.now a.program.now.settings a.index.now a.w a.a =
-    record { ready = record { checked = a.program.now.checked; stands = c.requires.stands }; kind = c.requires.zero_rec_value.0; half = c.requires.zero_rec_value.1 } in
+    let due : AtDemand a.query.now.program.code.now a.query.now.program.starts.now a.query.now.program.settings a.index.now a.w a.a =
+    record { ready = record { checked = a.query.now.program.checked; stands = c.requires.stands }; kind = c.requires.zero_rec_value.0; half = c.requires.zero_rec_value.1 } in
     let len : length c.read_line-m.new.list ≡ length a.list.now = search rules in
     let n : c.read_line-m.result ≤ 1024 = omega (arith, c.read_line-m.ensures.0, room due.ready 1024 refl) in
     (n, omega (arith, n, len))
@@ -83,22 +94,39 @@ bucket c =
 
 pub finish-f-requires-clause-clauses_value : goal.finish-f-requires-clause-clauses_value
 finish-f-requires-clause-clauses_value c =
-    let o : every (known c.args.program.now.starts.now) (take c.in-Bucket.k c.demand_at.new.clauses) ≡ true = rw c.in-Bucket.is at c.demand_at.ensures.held.offsets in
-    ap (every (known c.args.program.now.starts.now)) (bucket (goal.at.finish-f-requires-clause-clauses_value c).In-Bucket).1 ∙ o
+    let o : every (known c.args.query.now.program.starts.now) (take c.in-Bucket.k c.demand_at.new.clauses) ≡ true = rw c.in-Bucket.is at c.demand_at.ensures.held.offsets in
+    ap (every (known c.args.query.now.program.starts.now)) (bucket (goal.at.finish-f-requires-clause-clauses_value c).In-Bucket).1 ∙ o
 
 -- the answer from a bucket looks at few tables
 few-tables : (c : After-finish-f) → c.finish-f.result.tables ≤ 32
 few-tables c =
     let a = c.args in
-    let few = path-few (program_of class_of a.program.now.settings (records_of a.program.now.code.now) a.program.now.starts.now) (call_of a.call.now) (a.program.now.settings.arity + 1 - (a.a + 1)) (a.a + 1) []
+    let ready : Ready a.query.now.program.code.now a.query.now.program.starts.now a.query.now.program.settings a.index.now a.w =
+    record { checked = a.query.now.program.checked; stands = c.requires.stands } in
+    let few = path-few (program_of class_of a.query.now.program.settings (records_of a.query.now.program.code.now) a.query.now.program.starts.now) (call_of a.query.now.call.now) (a.query.now.program.settings.arity + 1 - (a.a + 1)) (a.a + 1) []
     (unstored (take c.in-Bucket.k (c.demand_at.new.clauses ++ drop c.read_line-m.result c.read_line-m.new.list))) in
-    omega (arith, few, ap (λ (y : Finished). y.tables) c.finish-f.ensures.result_value, c.requires.off.4)
+    omega (arith, few, ap (λ (y : Finished). y.tables) c.finish-f.ensures.result_value, arity-32 ready)
 
 pub overflow_add-f : goal.overflow_add-f
 overflow_add-f c = omega (arith, few-tables (goal.at.overflow_add-f c).After-finish-f)
 
 pub end_with-requires-in-Bucket : goal.end_with-requires-in-Bucket
-end_with-requires-in-Bucket c = (c.requires.off.1, omega (arith, few-tables (goal.at.end_with-requires-in-Bucket c).After-finish-f))
+end_with-requires-in-Bucket c = ((one-more (goal.at.end_with-requires-in-Bucket c).Start).0, omega (arith, few-tables (goal.at.end_with-requires-in-Bucket c).After-finish-f))
+
+pub pass_table-requires : goal.pass_table-requires
+pass_table-requires c = to-pass (table (goal.at.pass_table-requires c).Start)
+
+pub end_with-requires : goal.end_with-requires
+end_with-requires c = one-more (goal.at.end_with-requires c).Start
+
+pub end_with-requires-in-Single : goal.end_with-requires-in-Single
+end_with-requires-in-Single c = one-more (goal.at.end_with-requires-in-Single c).Start
+
+pub overflow_add-a : goal.overflow_add-a
+overflow_add-a c = record { fits = omega (arith, (table-range (table (goal.at.overflow_add-a c).Start)).2) }
+
+pub finish-f-requires-clause-le_a : goal.finish-f-requires-clause-le_a
+finish-f-requires-clause-le_a c = (omega arith, omega (arith, (table-range (table (goal.at.finish-f-requires-clause-le_a c).Start)).1))
 
 pub returns-in-NoTable : goal.returns-in-NoTable
 returns-in-NoTable c = absurd (rw c.in-NoTable.is at (narrowed (goal.at.returns-in-NoTable c).After-demand_at))
