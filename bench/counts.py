@@ -15,9 +15,10 @@ PARTS = {
     "indexing_iter::checks::check_clauses_of": "code",
     "indexing_iter::checks::check_clause": "code",
     "podrulka_walk": "index",
-    "well_formed::formed_with": "index",
+    "well_formed::check_records": "index",
+    "well_formed::formed_in": "index",
     "memset": "clearing",
-    "indexing_walk::walk_lists": "lookup",
+    "indexing_walk::walk_index": "lookup",
 }
 
 

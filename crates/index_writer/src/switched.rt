@@ -1,9 +1,9 @@
-// The argument that a line's switch is on.
+// The settings of a predicate with the argument that a line's switch is on.
 ghost use Rattle.std.specs.Prelude.{◌≤◌};
 
 use indexing_iter::Settings;
 
-// The predicate's settings, and the argument that the switch is on, one up to the arity.
+// The argument is at most the arity, and that at most 32.
 #[derive(Clone, Copy)]
 pub struct Switched {
     pub settings: Settings,

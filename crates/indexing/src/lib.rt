@@ -1,6 +1,6 @@
 // The index in definitions and laws: lines, tables and entries, building and expansion, the records of an index and back. The code is that of
 // index_writer and indexing_builder, whose contracts cite these definitions; here is only what several crates share: two readings of the settings,
-// and the buckets in which equal keys are found.
+// the kinds of an index's records, and the buckets in which equal keys are found.
 #![tactic(auto)]
 
 pub mod key_buckets;

@@ -25,7 +25,7 @@ use Rattle.indexing_builder.specs.declared.expansion.Grown.{Grown}
 abbrev pub index_on : OnDemand → List ℕ → Index
 index_on t b = parse (take t.count (records_of b))
 
--- what the expansion of the table t asks, of checked code: the buffer b begins with the records of an index of t.lines lines, whose line t.line
+-- what the expansion of the table t asks beside checked code: the buffer b begins with the records of an index of t.lines lines, whose line t.line
 -- has an on-demand table for t.arg, at place t.at; os and tags are the offsets and tags of that line, and its clauses are known
 pub record Demanded (t : OnDemand) (S : Settings) (code starts b os tags : List ℕ) : Type 0 where
   pub records-are : take t.count (records_of b) ≡ records (mode_of S.dynamic) 0 (index_on t b)
@@ -88,7 +88,7 @@ pub record Placed (t : OnDemand) (arity : ℕ) (b : List ℕ) : Type 0 where
   pub within : t.capacity ≤ length (records_of b)
   pub few-records : t.capacity ≤ 65535
 
--- what the expansion of a line asks: its offsets os are those of at most 1,024 clauses of checked code, with a tag for each
+-- what the expansion of a line asks: its offsets os are those of at most 1,024 known clauses, with a tag for each
 pub record Expandable (t : OnDemand) (S : Settings) (code starts b os tags : List ℕ) : Type 0 where
   pub known : AllKnown starts os
   pub few : length os ≤ 1024

@@ -1,4 +1,4 @@
--- What refuses code, and where: the number of the checks (specs/Checks), and the clause and the record first at fault.
+-- What refuses code, and where: the refusal of the checks (specs/Checks), and the clause and the record first at fault.
 -- Assumes nothing.
 use Rattle.std.specs.Prelude.{ℕ, suc, ◌+◌, ◌-◌, Bool, true, false, cond, List, [], ◌∷◌, map, eqb, ltb, length, get_or, Option, None, Some, Ok, Err}
 use Rattle.records.specs.declared.Rec.{Rec}

@@ -4,7 +4,7 @@ ghost use Rattle.std.specs.Prelude.{◌≡◌};
 use std::error::Error;
 use std::fmt;
 
-// A refusal; its number is the one of document 01's table. Where several apply, the least is told.
+// A refusal; its number is the one of document 01's table.
 #[derive(Clone, Copy, Debug, PartialEq, Eq)]
 pub enum Refusal {
     Arity = 1,

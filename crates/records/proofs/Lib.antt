@@ -8,3 +8,4 @@ pub mod MoveLaws
 pub mod PartLaws
 pub mod PointerLaws
 pub mod Whole
+pub mod Run

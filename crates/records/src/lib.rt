@@ -103,10 +103,12 @@ pub fn put_run(index: &mut [u8], at: usize, run: &[u8])
     requires { at + length (records_of run.now) ≤ length (records_of index.old) }
     ensures { Wrote index.old index.new (written (records_of index.old) at (records_of run.now)) }
 {
-    let first = 16 * at;
-    let len = 16 * capacity(run);
-    let end = first + len;
-    index[first..end].copy_from_slice(&run[..len]);
+    let n = capacity(run);
+    for i in 0..n {
+        let to = at + i;
+        let r = get(run, i);
+        put(index, to, r);
+    }
 }
 
 // Moves the first n records up by k places.
