@@ -3,7 +3,7 @@
 usage: python3 tools/counts.py   (in the repository)"""
 import os
 LIBRARY = '''records/specs/Bytes records/specs/Records indexing_iter/specs/Classes indexing_iter/specs/Keys
-indexing_iter/specs/Clauses indexing_iter/specs/Refusals indexing_iter/specs/Checks indexing_iter/specs/Faults locate/specs/First indexing/specs/Lists indexing/specs/Lines indexing/specs/Reading
+indexing_iter/specs/Clauses indexing_iter/specs/Refusals indexing_iter/specs/Checks indexing_iter/specs/Faults indexing_iter/specs/Flags locate/specs/First indexing/specs/Lists indexing/specs/Lines indexing/specs/Reading
 indexing/specs/Build indexing/specs/Expand indexing/specs/Builder indexing/specs/Sized indexing_builder/specs/Answer index_size/specs/Answer well_formed/specs/WellFormed indexing_scan/specs/Agree
 indexing_scan/specs/Walk indexing_scan/specs/Calls indexing_scan/specs/Cases indexing_scan/specs/Witness indexing_walk/specs/Answers podrulka/specs/Face
 claims/specs/Show claims/specs/Demand3 claims/specs/General'''.split()

@@ -1,4 +1,9 @@
 // Buckets of a line's clauses by their keys at one argument, and the switch that leads to them.
+// A u32 becomes a usize by `as`, since there is no From for it. A count of lines becomes a u32 by `as`: there are at most 1,024 clauses.
+// A writer takes the index and a place and gives back the place after what it wrote. A struct of both would hold the lent index: each contract would
+// speak of that field's states, and no call would be shorter.
+// i is below the number of clauses in each function that reads a column at i: the bound is of a number that is another in each call. count_lines and
+// list_lines alone ask that there are at most 1,024 clauses.
 ghost use Rattle.std.specs.Prelude.{◌≡◌, cond, List, ℕ, ◌+◌, ◌*◌, ◌≤◌, ◌<◌, length};
 ghost use Rattle.records.specs.Records.{records_of};
 ghost use Rattle.records.specs.Pointer.{internal_word};
@@ -6,102 +11,106 @@ ghost use Rattle.indexing_iter.specs.Groups.{group_number};
 ghost use Rattle.indexing.specs.Upto.{bit, count_to, any_to};
 ghost use Rattle.indexing.specs.Columns.{group_of_head, needs_line, opens_bucket, lines_to, empty_list, list_lines, switch_recs};
 ghost use Rattle.index_writer.specs.Writing.{Puts};
-ghost use Rattle.index_writer.specs.Written.{bucket_opens, line_opens, entry_by, entries_by, list_entries_by, switch_by};
+ghost use Rattle.index_writer.specs.Written.{bucket_opens, line_opens, bucket_needs_line, entry_by, entries_by, list_entries_by, switch_by};
 
-use crate::clauses::Columns;
+use crate::clauses::{Buckets, Entries, Heads};
 use crate::counting::{any_if, count_if};
+use crate::index_records;
 use indexing::kinds::Kind;
+use indexing_iter::OptArgIndexKey;
 use indexing_iter::group::Group;
-use records::Rec;
 
-// The group of a key by its head.
+// The group of a key by its head, whose sort is 1 to 3 for a literal, 4 for a structure and 5 for the list.
+// A head is a u32: sort and arity in one number, which is compared and divided. The sorts are document 01's numbers.
 fn group(head: u32) -> Group
     ensures { group_number result ≡ group_of_head head }
 {
-    if head < 262144 {
-        Group::Literals
-    } else if head < 327680 {
-        Group::Structures
-    } else {
-        Group::List
+    match head / 65536 {
+        0..=3 => Group::Literals,
+        4 => Group::Structures,
+        _ => Group::List,
     }
 }
 
-// Whether clause i opens a bucket of group g.
+// Whether clause i opens a bucket of the group whose number is g. It is a number here and in the three public functions that follow: any may be asked
+// about, and a Group would ask more of their callers than a u32 did.
 #[tactic(auto, unfolding(indexing::specs::Columns::opens_bucket, indexing::specs::Columns::leads))]
-fn opens_bucket(columns: &Columns, g: Group, i: usize) -> bool
-    requires { i < length columns.now.clauses.leaders.now }
-    ensures { result ≡ bucket_opens columns.now g i }
+fn opens_bucket(heads: &Heads, g: u32, i: usize) -> bool
+    requires { i < length heads.now.leaders.now }
+    ensures { result ≡ bucket_opens heads.now g i }
 {
-    columns.clauses.leaders[i] as usize == i && group(columns.heads[i]) == g
+    heads.leaders[i] as usize == i && u32::from(group(heads.heads[i])) == g
 }
 
 // Whether the bucket that clause i leads is a line.
 #[tactic(auto, unfolding(indexing::specs::Columns::needs_line))]
-fn needs_line(columns: &Columns, dynamic: bool, i: usize) -> bool
-    requires { i < length columns.now.clauses.leaders.now }
-    ensures { result ≡ needs_line columns.now.clauses.leaders.now dynamic i }
+fn needs_line(buckets: &Buckets, i: usize) -> bool
+    requires { i < length buckets.now.heads.leaders.now }
+    ensures { result ≡ bucket_needs_line buckets.now.heads i }
 {
-    dynamic || 2 <= columns.sizes[i]
+    buckets.heads.dynamic || 2 <= buckets.sizes[i]
 }
 
 // Whether clause i opens a bucket of group g that is a line.
 #[tactic(auto, unfolding(indexing::specs::Columns::opens_line))]
-pub fn opens_line(columns: &Columns, dynamic: bool, g: Group, i: usize) -> bool
-    requires { i < length columns.now.clauses.leaders.now }
-    ensures { result ≡ line_opens columns.now dynamic g i }
+pub fn opens_line(buckets: &Buckets, g: u32, i: usize) -> bool
+    requires { i < length buckets.now.heads.leaders.now }
+    ensures { result ≡ line_opens buckets.now.heads g i }
 {
-    opens_bucket(columns, g, i) && needs_line(columns, dynamic, i)
+    opens_bucket(&buckets.heads, g, i) && needs_line(buckets, i)
 }
 
 // One where clause i opens a line of group g, else nothing.
-pub fn line_step(columns: &Columns, dynamic: bool, g: Group, i: usize) -> u32
-    requires { i < length columns.now.clauses.leaders.now }
-    ensures { (result ≡ bit (line_opens columns.now dynamic g i)) × (result ≤ 1) }
+pub fn line_step(buckets: &Buckets, g: u32, i: usize) -> u32
+    requires { i < length buckets.now.heads.leaders.now }
+    ensures { (result ≡ bit (line_opens buckets.now.heads g i)) × (result ≤ 1) }
 {
-    opens_line(columns, dynamic, g, i) as u32
+    u32::from(opens_line(buckets, g, i))
 }
 
 // How many lines the buckets of group g take.
 #[tactic(auto, unfolding(indexing::specs::Columns::lines_to))]
-pub fn count_lines(columns: &Columns, dynamic: bool, g: Group) -> u32
-    ensures value { result ≡ lines_to columns.now.clauses.leaders.now columns.now.heads.now dynamic (group_number g) (length columns.now.clauses.leaders.now) }
-    ensures upper_bound { result ≤ length columns.now.clauses.leaders.now }
+pub fn count_lines(buckets: &Buckets, g: u32) -> u32
+    requires few { length buckets.now.heads.leaders.now ≤ 1024 }
+    ensures value { result ≡ lines_to buckets.now.heads.leaders.now buckets.now.heads.heads.now buckets.now.heads.dynamic g (length buckets.now.heads.leaders.now) }
+    ensures upper_bound { result ≤ length buckets.now.heads.leaders.now }
 {
-    let n = columns.clauses.leaders.len();
-    count_if(n, |i| opens_line(columns, dynamic, g, i)) as u32
+    let n = buckets.heads.leaders.len();
+    count_if(n, |i| opens_line(buckets, g, i)) as u32
 }
 
 // Whether group g has a bucket.
-fn any_bucket(columns: &Columns, g: Group) -> bool
-    ensures { result ≡ any_to (bucket_opens columns.now g) (length columns.now.clauses.leaders.now) }
+fn any_bucket(heads: &Heads, g: Group) -> bool
+    ensures { result ≡ any_to (bucket_opens heads.now (group_number g)) (length heads.now.leaders.now) }
 {
-    let n = columns.clauses.leaders.len();
-    any_if(n, |i| opens_bucket(columns, g, i))
+    let n = heads.leaders.len();
+    any_if(n, |i| opens_bucket(heads, u32::from(g), i))
 }
 
 // Whether the list line has no clauses: a dynamic line has one even where no clause has a list.
 #[tactic(auto, unfolding(indexing::specs::Columns::empty_list))]
-pub fn empty_list(columns: &Columns, dynamic: bool) -> bool
-    ensures { result ≡ empty_list columns.now.clauses.leaders.now columns.now.heads.now dynamic }
+pub fn empty_list(heads: &Heads) -> bool
+    ensures { result ≡ empty_list heads.now.leaders.now heads.now.heads.now heads.now.dynamic }
 {
-    dynamic && !any_bucket(columns, Group::List)
+    heads.dynamic && !any_bucket(heads, Group::List)
 }
 
 // How many lines the list group has.
 #[tactic(auto, unfolding(indexing::specs::Columns::list_lines))]
-pub fn list_lines(columns: &Columns, dynamic: bool) -> u32
-    ensures value { result ≡ list_lines columns.now.clauses.leaders.now columns.now.heads.now dynamic }
-    ensures upper_bound { result ≤ length columns.now.clauses.leaders.now + 1 }
+pub fn list_lines(buckets: &Buckets) -> u32
+    requires few { length buckets.now.heads.leaders.now ≤ 1024 }
+    ensures value { result ≡ list_lines buckets.now.heads.leaders.now buckets.now.heads.heads.now buckets.now.heads.dynamic }
+    ensures upper_bound { result ≤ length buckets.now.heads.leaders.now + 1 }
 {
-    if empty_list(columns, dynamic) {
+    if empty_list(&buckets.heads) {
         1
     } else {
-        count_lines(columns, dynamic, Group::List)
+        count_lines(buckets, u32::from(Group::List))
     }
 }
 
 // The pointer to the new line number d, counted from 1: a fresh one with that distance, grown by the lines that stand between.
+// (d, by) stay two parameters, here and in the callers: what document 01 says is a fresh pointer that is grown.
 fn line_pointer(d: u32, by: u32) -> u32
     requires { d + by < 2147483648 }
     ensures { result ≡ internal_word (d + by) }
@@ -111,11 +120,11 @@ fn line_pointer(d: u32, by: u32) -> u32
 }
 
 // The word of the entry of clause i's bucket: the pointer to its line, d among the new ones, or its offset, which does not grow.
-fn pointer_to(columns: &Columns, dynamic: bool, i: usize, d: u32, by: u32, offset: u32) -> u32
-    requires { (i < length columns.now.clauses.leaders.now) × (d + by < 2147483648) }
-    ensures { result ≡ cond (needs_line columns.now.clauses.leaders.now dynamic i) (internal_word (d + by)) offset }
+fn pointer_to(buckets: &Buckets, i: usize, d: u32, by: u32, offset: u32) -> u32
+    requires { (i < length buckets.now.heads.leaders.now) × (d + by < 2147483648) }
+    ensures { result ≡ cond (bucket_needs_line buckets.now.heads i) (internal_word (d + by)) offset }
 {
-    if needs_line(columns, dynamic, i) {
+    if needs_line(buckets, i) {
         line_pointer(d, by)
     } else {
         offset
@@ -126,33 +135,21 @@ fn pointer_to(columns: &Columns, dynamic: bool, i: usize, d: u32, by: u32, offse
 fn put_entry(
     index: &mut [u8],
     q: usize,
-    columns: &Columns,
-    dynamic: bool,
+    entries: &Entries,
     g: Group,
     d: u32,
     by: u32,
     i: usize,
 ) -> usize
-    requires i_bound { (i < length columns.now.clauses.leaders.now) × (d + by < 2147483648) }
-    requires i_in_bounds { q + length (entry_by columns.now dynamic g (d + by) i) ≤ length (records_of index.old) }
-    ensures { Puts index.old index.new q result (entry_by columns.now dynamic g (d + by) i) }
+    requires i_bound { (i < length entries.now.buckets.heads.leaders.now) × (d + by < 2147483648) }
+    requires i_in_bounds { q + length (entry_by entries.now g (d + by) i) ≤ length (records_of index.old) }
+    ensures { Puts index.old index.new q result (entry_by entries.now g (d + by) i) }
 {
-    if opens_bucket(columns, g, i) {
-        let word = pointer_to(columns, dynamic, i, d, by, columns.clauses.offs[i]);
-        let head = columns.heads[i];
-        let sub = (head / 65536 % 256) as u8;
-        let half = (head % 65536) as u16;
-        records::put(
-            index,
-            q,
-            Rec {
-                kind: Kind::Entry as u8,
-                sub,
-                half,
-                word,
-                long: columns.bits[i],
-            },
-        );
+    let heads = &entries.buckets.heads;
+    if opens_bucket(heads, u32::from(g), i) {
+        let word = pointer_to(&entries.buckets, i, d, by, entries.offs[i]);
+        let entry = index_records::entry(heads.heads[i], entries.bits[i], word);
+        records::put(index, q, entry);
         return q + 1;
     }
     q
@@ -162,120 +159,79 @@ fn put_entry(
 // new ones, and k its next; distances grow by what is given.
 // A loop of its own, as where choices, dead clauses, tables and lines are written: a turn writes to index, and takes the place and often a number from
 // the turn before, so one loop over a closure would be no plainer.
-fn put_entries(
-    index: &mut [u8],
-    p: usize,
-    columns: &Columns,
-    dynamic: bool,
-    g: Group,
-    d: u32,
-    by: u32,
-) -> usize
-    requires d_bound { d + by + length columns.now.clauses.leaders.now < 2147483648 }
-    requires by_in_bounds { p + length (entries_by columns.now dynamic g (d + by)) ≤ length (records_of index.old) }
-    ensures { Puts index.old index.new p result (entries_by columns.now dynamic g (d + by)) }
+fn put_entries(index: &mut [u8], p: usize, entries: &Entries, g: Group, d: u32, by: u32) -> usize
+    requires d_bound { d + by + length entries.now.buckets.heads.leaders.now < 2147483648 }
+    requires by_in_bounds { p + length (entries_by entries.now g (d + by)) ≤ length (records_of index.old) }
+    ensures { Puts index.old index.new p result (entries_by entries.now g (d + by)) }
 {
     let mut q = p;
     let mut k = d;
-    for i in 0..columns.clauses.leaders.len() {
-        q = put_entry(index, q, columns, dynamic, g, k, by, i);
-        k += line_step(columns, dynamic, g, i);
+    for i in 0..entries.buckets.heads.leaders.len() {
+        q = put_entry(index, q, entries, g, k, by, i);
+        k += line_step(&entries.buckets, u32::from(g), i);
     }
     q
 }
 
 // Writes the entries of the list group from place p on and returns the place after them; d is its line among the new ones.
-fn put_list_entries(
-    index: &mut [u8],
-    p: usize,
-    columns: &Columns,
-    dynamic: bool,
-    d: u32,
-    by: u32,
-) -> usize
-    requires d_bound { d + by + length columns.now.clauses.leaders.now < 2147483648 }
-    requires by_in_bounds { p + length (list_entries_by columns.now dynamic (d + by)) ≤ length (records_of index.old) }
-    ensures { Puts index.old index.new p result (list_entries_by columns.now dynamic (d + by)) }
+fn put_list_entries(index: &mut [u8], p: usize, entries: &Entries, d: u32, by: u32) -> usize
+    requires d_bound { d + by + length entries.now.buckets.heads.leaders.now < 2147483648 }
+    requires by_in_bounds { p + length (list_entries_by entries.now (d + by)) ≤ length (records_of index.old) }
+    ensures { Puts index.old index.new p result (list_entries_by entries.now (d + by)) }
 {
-    if empty_list(columns, dynamic) {
+    if empty_list(&entries.buckets.heads) {
         let word = line_pointer(d, by);
-        records::put(
-            index,
-            p,
-            Rec {
-                kind: Kind::Entry as u8,
-                sub: 5,
-                half: 0,
-                word,
-                long: 0,
-            },
-        );
+        let head = indexing_iter::head_of(OptArgIndexKey::List);
+        records::put(index, p, index_records::entry(head, 0, word));
         return p + 1;
     }
-    put_entries(index, p, columns, dynamic, Group::List, d, by)
+    put_entries(index, p, entries, Group::List, d, by)
 }
 
 // Writes the switch on arg and its entries from place p on and returns the place after them; distances grow by what is given.
 // Entries stand by literals, list, structures; new lines, counted from 1, by list, structures from d3 on, literals from d1 on.
-pub fn put_switch(
-    index: &mut [u8],
-    p: usize,
-    columns: &Columns,
-    dynamic: bool,
-    arg: u16,
-    by: u32,
-) -> usize
+pub fn put_switch(index: &mut [u8], p: usize, entries: &Entries, arg: u16, by: u32) -> usize
     requires by_bound { by ≤ 65535 }
-    requires by_in_bounds { p + length (switch_by columns.now dynamic arg (1 + by)) ≤ length (records_of index.old) }
-    ensures { Puts index.old index.new p result (switch_by columns.now dynamic arg (1 + by)) }
+    requires by_in_bounds { p + length (switch_by entries.now arg (1 + by)) ≤ length (records_of index.old) }
+    ensures { Puts index.old index.new p result (switch_by entries.now arg (1 + by)) }
 {
-    let d3 = 1 + list_lines(columns, dynamic);
-    let d1 = d3 + count_lines(columns, dynamic, Group::Structures);
-    records::put(
-        index,
-        p,
-        Rec {
-            kind: Kind::Switch as u8,
-            sub: 0,
-            half: arg,
-            word: 0,
-            long: 0,
-        },
-    );
-    let q = p + 1;
-    let q = put_entries(index, q, columns, dynamic, Group::Literals, d1, by);
-    let q = put_list_entries(index, q, columns, dynamic, 1, by);
-    put_entries(index, q, columns, dynamic, Group::Structures, d3, by)
+    let d3 = 1 + list_lines(&entries.buckets);
+    let d1 = d3 + count_lines(&entries.buckets, u32::from(Group::Structures));
+    records::put(index, p, index_records::table(Kind::Switch, arg));
+    let q = put_entries(index, p + 1, entries, Group::Literals, d1, by);
+    let q = put_list_entries(index, q, entries, 1, by);
+    put_entries(index, q, entries, Group::Structures, d3, by)
 }
 
 // How many entries group g has.
-fn count_entries(columns: &Columns, g: Group) -> usize
-    ensures value { result ≡ count_to (bucket_opens columns.now g) (length columns.now.clauses.leaders.now) }
-    ensures upper_bound { result ≤ length columns.now.clauses.leaders.now }
+// Writing and counting are two functions, here, in count_list_entries and in switch_room, for the reason at the top of rooms.
+fn count_entries(heads: &Heads, g: Group) -> usize
+    ensures value { result ≡ count_to (bucket_opens heads.now (group_number g)) (length heads.now.leaders.now) }
+    ensures upper_bound { result ≤ length heads.now.leaders.now }
 {
-    let n = columns.clauses.leaders.len();
-    count_if(n, |i| opens_bucket(columns, g, i))
+    let n = heads.leaders.len();
+    count_if(n, |i| opens_bucket(heads, u32::from(g), i))
 }
 
 // How many entries the list group has.
-fn count_list_entries(columns: &Columns, dynamic: bool) -> usize
-    ensures value { result ≡ cond (empty_list columns.now.clauses.leaders.now columns.now.heads.now dynamic) 1 (count_to (opens_bucket columns.now.clauses.leaders.now columns.now.heads.now 2) (length columns.now.clauses.leaders.now)) }
-    ensures upper_bound { result ≤ length columns.now.clauses.leaders.now + 1 }
+fn count_list_entries(heads: &Heads) -> usize
+    ensures value { result ≡ cond (empty_list heads.now.leaders.now heads.now.heads.now heads.now.dynamic) 1 (count_to (opens_bucket heads.now.leaders.now heads.now.heads.now 2) (length heads.now.leaders.now)) }
+    ensures upper_bound { result ≤ length heads.now.leaders.now + 1 }
 {
-    if empty_list(columns, dynamic) {
+    if empty_list(heads) {
         1
     } else {
-        count_entries(columns, Group::List)
+        count_entries(heads, Group::List)
     }
 }
 
 // How many records the switch and its entries take, whatever their distances are.
-pub fn switch_room(columns: &Columns, dynamic: bool) -> usize
-    ensures by_index { (bits offs : List ℕ) (arg d : ℕ) → result ≡ length (switch_recs columns.now.clauses.leaders.now columns.now.heads.now bits offs dynamic arg d) }
-    ensures upper_bound { result ≤ 2 + 3 * length columns.now.clauses.leaders.now }
+pub fn switch_room(heads: &Heads) -> usize
+    ensures by_index { (bits offs : List ℕ) (arg d : ℕ) → result ≡ length (switch_recs heads.now.leaders.now heads.now.heads.now bits offs heads.now.dynamic arg d) }
+    ensures upper_bound { result ≤ 2 + 3 * length heads.now.leaders.now }
 {
-    let literals = count_entries(columns, Group::Literals);
-    let lists = count_list_entries(columns, dynamic);
-    let structures = count_entries(columns, Group::Structures);
+    let literals = count_entries(heads, Group::Literals);
+    let lists = count_list_entries(heads);
+    let structures = count_entries(heads, Group::Structures);
     1 + literals + lists + structures
 }

@@ -1,25 +1,32 @@
 // The columns of a line's clauses at one argument: offsets and tags, keys, open arguments, leaders and bucket sizes.
+// Columns are parallel arrays of fixed size (no heap). A function reads some of them alone: keys heads and bits, rooms leaders, heads and opens.
+// An array of structs would hand each function fields that it does not read.
+// A column that is being filled has its length in each contract: it is not yet what a struct says of it.
+// A u32 becomes a usize by `as`, since there is no From for it. A place becomes a u32 by `as`: there are at most 1,024 clauses.
 ghost use Rattle.std.specs.Prelude.{◌≡◌, true, ◌+◌, ◌*◌, ◌≤◌, ◌<◌, length, replicate};
 ghost use Rattle.std.proofs.Math.Seq.{slice};
 ghost use Rattle.records.specs.Records.{records_of};
-ghost use Rattle.indexing_iter.specs.Classes.{class_of};
 ghost use Rattle.indexing_iter.specs.Keys.{bits_of};
 ghost use Rattle.indexing_iter.specs.Rows.{head_of};
-ghost use Rattle.indexing_iter.specs.Clauses.{key_of, known, offsets_of};
+ghost use Rattle.indexing_iter.specs.Clauses.{known, offsets_of};
+ghost use Rattle.indexing_iter.specs.Readings.{keys_by};
 ghost use Rattle.indexing.specs.Columns.{words_of, leader_of, leaders_to, sizes_to, heads_to, bits_to, open_row, opens_to};
-ghost use Rattle.index_writer.specs.Choices.{subs_of, NumbersBelow, AllKnown, open_numbers};
+ghost use Rattle.index_writer.specs.Choices.{subs_of, NumbersBelow, open_numbers};
+ghost use Rattle.index_writer.specs.Filling.{Filled};
 ghost use Rattle.indexing.specs.Expanding.{ColumnsOf};
 ghost use Rattle.indexing.specs.Chains.{Chained};
 ghost use Rattle.index_writer.specs.Chains.{bucket_at, leads_in};
 
-use crate::clauses::{Clauses, Columns};
+use crate::clauses::{Buckets, Clauses, Columns, Heads, LineRooms, NewLines, Opens, Tables};
 use crate::keys::Keys;
-use crate::tags::Tag;
-use indexing::key_buckets;
+use crate::line::Line;
+use crate::switched::Switched;
+use indexing::key_buckets::{self, Chains, Searched};
+use indexing::tags::Tag;
 use indexing_iter::program::Program;
 
 // A key as two numbers: its sort and arity in one, and its bits.
-#[derive(Clone, Copy, Debug, PartialEq, Eq)]
+#[derive(Clone, Copy)]
 struct KeyNumbers {
     head: u32,
     bits: u64,
@@ -30,42 +37,27 @@ fn search_leaders(keys: &Keys, leaders: &mut [u32])
     requires { length leaders.old ≡ length keys.now.heads.now }
     ensures { leaders.new ≡ leaders_to keys.now.heads.now keys.now.bits.now (length keys.now.heads.now) }
 {
-    for j in 0..keys.heads.len() {
-        leaders[j] = keys.leader_of(j);
+    for (j, leader) in leaders.iter_mut().enumerate() {
+        *leader = keys.leader_of(j);
     }
 }
 
-// The clauses that lead themselves, in buckets by their keys, as key_buckets::push chains them.
-#[derive(Drop)]
-struct Chains {
-    firsts: [u16; 1021],
-    links: [u16; 1024],
-}
-
-// The leader of clause j: the leaders before it in its bucket are looked at, one by one. Where 32 of them do not decide it, it is searched
-// from the first clause on: a crowded bucket costs little more than no buckets.
-fn chained_leader(keys: &Keys, j: usize, bucket: usize, chains: &Chains) -> u32
+// The leader of clause j, searched among the leaders before it in its bucket, and from the first clause on where these do not decide it.
+fn chained_leader(keys: &Keys, j: usize, bucket: usize, chains: &Chains<1021, 1024>) -> u32
     requires j_in_bounds { j < length keys.now.heads.now }
     requires bucket_value { (bucket ≡ bucket_at keys.now.heads.now keys.now.bits.now j) × (bucket < 1021) }
     requires chained { Chained (leads_in keys.now.heads.now keys.now.bits.now) chains.now.firsts chains.now.links j }
     ensures { result ≡ leader_of keys.now.heads.now keys.now.bits.now j }
 {
-    let mut number = chains.firsts[bucket] as usize;
-    for _ in 0..32 {
-        if number == 0 {
-            return j as u32;
-        }
-        let i = number - 1;
-        if keys.same_at(i, j) {
-            return i as u32;
-        }
-        number = chains.links[i] as usize;
+    match chains.find(bucket, |i| keys.same_at(i, j)) {
+        Searched::Found(i) => i as u32,
+        Searched::Nowhere => j as u32,
+        Searched::Open => keys.leader_of(j),
     }
-    keys.leader_of(j)
 }
 
 // The leader of clause j, which joins its bucket if it leads itself.
-fn next_leader(keys: &Keys, j: usize, chains: &mut Chains) -> u32
+fn next_leader(keys: &Keys, j: usize, chains: &mut Chains<1021, 1024>) -> u32
     requires j_in_bounds { j < length keys.now.heads.now }
     requires chained { Chained (leads_in keys.now.heads.now keys.now.bits.now) chains.old.firsts chains.old.links j }
     ensures value { result ≡ leader_of keys.now.heads.now keys.now.bits.now j }
@@ -73,9 +65,8 @@ fn next_leader(keys: &Keys, j: usize, chains: &mut Chains) -> u32
 {
     let bucket = key_buckets::bucket_of(keys.heads[j], keys.bits[j], 1021);
     let leader = chained_leader(keys, j, bucket, chains);
-    let own = j as u32;
-    if leader == own {
-        key_buckets::push(&mut chains.firsts, &mut chains.links, bucket, j);
+    if leader as usize == j {
+        chains.push(bucket, j);
     }
     leader
 }
@@ -85,12 +76,9 @@ fn chain_leaders(keys: &Keys, leaders: &mut [u32])
     requires { length leaders.old ≡ length keys.now.heads.now }
     ensures { leaders.new ≡ leaders_to keys.now.heads.now keys.now.bits.now (length keys.now.heads.now) }
 {
-    let mut chains = Chains {
-        firsts: [0; 1021],
-        links: [0; 1024],
-    };
-    for j in 0..keys.heads.len() {
-        leaders[j] = next_leader(keys, j, &mut chains);
+    let mut chains = Chains::new();
+    for (j, leader) in leaders.iter_mut().enumerate() {
+        *leader = next_leader(keys, j, &mut chains);
     }
 }
 
@@ -113,9 +101,8 @@ pub fn count_sizes(leaders: &[u32], sizes: &mut [u32])
     ensures { sizes.new ≡ sizes_to leaders.now (length leaders.now) }
 {
     sizes.fill(0);
-    for j in 0..leaders.len() {
-        let i = leaders[j] as usize;
-        sizes[i] += 1;
+    for leader in leaders {
+        sizes[*leader as usize] += 1;
     }
 }
 
@@ -135,8 +122,8 @@ fn put_open_row(opens: &mut [u8], heads: &[u32], arity: u32)
     ensures { opens.new ≡ open_numbers heads.now arity }
 {
     let n = arity as usize;
-    for b in 0..32 {
-        opens[b] = u8::from(b < n && heads[b] == 0);
+    for (b, open) in opens.iter_mut().enumerate() {
+        *open = u8::from(b < n && heads[b] == 0);
     }
 }
 
@@ -144,9 +131,9 @@ fn put_open_row(opens: &mut [u8], heads: &[u32], arity: u32)
 fn read_row(program: &Program, offset: u32, a: u32, opens: &mut [u8]) -> KeyNumbers
     requires offset_value { known program.now.starts.now offset ≡ true }
     requires le_a { (1 ≤ a) × (a ≤ program.now.settings.arity) × (length opens.old ≡ 32) }
-    ensures head_value { result.head ≡ head_of (key_of class_of (records_of program.now.code.now) program.now.starts.now offset a) }
-    ensures bits_value { result.bits ≡ bits_of (key_of class_of (records_of program.now.code.now) program.now.starts.now offset a) }
-    ensures opens_after { opens.new ≡ open_row (key_of class_of (records_of program.now.code.now) program.now.starts.now) program.now.settings.arity offset }
+    ensures head_value { result.head ≡ head_of (keys_by program.now offset a) }
+    ensures bits_value { result.bits ≡ bits_of (keys_by program.now offset a) }
+    ensures opens_after { opens.new ≡ open_row (keys_by program.now) program.now.settings.arity offset }
 {
     let mut heads = [0u32; 32];
     let mut bits = [0u64; 32];
@@ -159,37 +146,28 @@ fn read_row(program: &Program, offset: u32, a: u32, opens: &mut [u8]) -> KeyNumb
     }
 }
 
-// The keys of the clauses offs at argument a, and where each clause is open, in one pass over the clauses' records.
-pub fn read_keys(
-    program: &Program,
-    offs: &[u32],
-    a: u32,
-    heads: &mut [u32],
-    bits: &mut [u64],
-    opens: &mut [u8],
-)
-    requires all_known { AllKnown program.now.starts.now offs.now }
-    requires le_a { (1 ≤ a) × (a ≤ program.now.settings.arity) }
-    requires offs_len_bound { (length offs.now ≤ 1024) × (length heads.old ≡ length offs.now) × (length bits.old ≡ length offs.now) × (length opens.old ≡ 32 * length offs.now) }
-    ensures heads_after { heads.new ≡ heads_to (key_of class_of (records_of program.now.code.now) program.now.starts.now) offs.now a (length offs.now) }
-    ensures bits_after { bits.new ≡ bits_to (key_of class_of (records_of program.now.code.now) program.now.starts.now) offs.now a (length offs.now) }
-    ensures opens_after { opens.new ≡ opens_to (key_of class_of (records_of program.now.code.now) program.now.starts.now) program.now.settings.arity offs.now (length offs.now) }
+// The keys of a line's clauses at its argument, and where each clause is open, in one pass over the clauses' records.
+// opens is flat, 32 numbers a clause, here and in fill_columns: both are public, and a slice of rows of 32 would ask another type of their callers.
+pub fn read_keys(line: &Line, heads: &mut [u32], bits: &mut [u64], opens: &mut [u8])
+    requires { (length heads.old ≡ length line.now.offs.now) × (length bits.old ≡ length line.now.offs.now) × (length opens.old ≡ 32 * length line.now.offs.now) }
+    ensures heads_after { heads.new ≡ heads_to (keys_by line.now.program) line.now.offs.now line.now.arg (length line.now.offs.now) }
+    ensures bits_after { bits.new ≡ bits_to (keys_by line.now.program) line.now.offs.now line.now.arg (length line.now.offs.now) }
+    ensures opens_after { opens.new ≡ opens_to (keys_by line.now.program) line.now.program.settings.arity line.now.offs.now (length line.now.offs.now) }
 {
-    for i in 0..offs.len() {
+    // Heads and bits by place: a zip with an iter_mut was tried (read_choices), and a proof learns nothing of what it writes.
+    for (i, offset) in line.offs.iter().enumerate() {
         let o = 32 * i;
         let e = o + 32;
-        let k = read_row(program, offs[i], a, &mut opens[o..e]);
+        let k = read_row(&line.program, *offset, line.arg, &mut opens[o..e]);
         heads[i] = k.head;
         bits[i] = k.bits;
     }
 }
 
-// All columns of the clauses offs at argument a; whole is the leaders column in which they are one bucket, led by clause 0.
-// ColumnArrays::fill is its one caller, and lends the front of each of its arrays: so the columns stay parameters.
+// All columns of a line's clauses at its argument; whole is the leaders column in which they are one bucket, led by clause 0.
+// ColumnArrays::fill_fronts calls it with the front of each of its arrays, lent to be written: so the columns stay parameters.
 pub fn fill_columns(
-    program: &Program,
-    offs: &[u32],
-    a: u32,
+    line: &Line,
     leaders: &mut [u32],
     heads: &mut [u32],
     sizes: &mut [u32],
@@ -197,13 +175,11 @@ pub fn fill_columns(
     bits: &mut [u64],
     opens: &mut [u8],
 )
-    requires all_known { AllKnown program.now.starts.now offs.now }
-    requires le_a { (1 ≤ a) × (a ≤ program.now.settings.arity) }
-    requires offs_len_bound { (length offs.now ≤ 1024) × (length leaders.old ≡ length offs.now) × (length heads.old ≡ length offs.now) × (length sizes.old ≡ length offs.now) }
-    requires whole_len { (length whole.old ≡ length offs.now) × (length bits.old ≡ length offs.now) × (length opens.old ≡ 32 * length offs.now) }
-    ensures { ColumnsOf (key_of class_of (records_of program.now.code.now) program.now.starts.now) program.now.settings.arity offs.now a leaders.new heads.new sizes.new whole.new bits.new opens.new }
+    requires leaders_len { (length leaders.old ≡ length line.now.offs.now) × (length heads.old ≡ length line.now.offs.now) × (length sizes.old ≡ length line.now.offs.now) }
+    requires whole_len { (length whole.old ≡ length line.now.offs.now) × (length bits.old ≡ length line.now.offs.now) × (length opens.old ≡ 32 * length line.now.offs.now) }
+    ensures { ColumnsOf (keys_by line.now.program) line.now.program.settings.arity line.now.offs.now line.now.arg leaders.new heads.new sizes.new whole.new bits.new opens.new }
 {
-    read_keys(program, offs, a, heads, bits, opens);
+    read_keys(line, heads, bits, opens);
     lead_columns(&Keys { heads, bits }, leaders, sizes);
     whole.fill(0);
 }
@@ -219,6 +195,17 @@ pub struct ColumnArrays {
     opens: [u8; 32768],
 }
 
+// The fronts of these arrays, filled: as many numbers as there are clauses.
+#[derive(Clone, Copy)]
+struct Fronts<'a> {
+    leaders: &'a [u32],
+    heads: &'a [u32],
+    sizes: &'a [u32],
+    whole: &'a [u32],
+    bits: &'a [u64],
+    opens: &'a [u8],
+}
+
 impl ColumnArrays {
     pub fn new() -> Self {
         ColumnArrays {
@@ -231,22 +218,12 @@ impl ColumnArrays {
         }
     }
 
-    // The clauses offs with these tags, first as one bucket, led by clause 0, and then with their keys at argument a in the buckets of these.
-    pub fn fill<'a>(
-        &'a mut self,
-        program: &Program,
-        offs: &'a [u32],
-        tags: &'a [u8],
-        a: u32,
-    ) -> (Clauses<'a>, Columns<'a>)
-        requires all_known { AllKnown program.now.starts.now offs.now }
-        requires le_a { (1 ≤ a) × (a ≤ program.now.settings.arity) }
-        requires few { (length offs.now ≤ 1024) × (length tags.now ≡ length offs.now) }
-        ensures filled { ColumnsOf (key_of class_of (records_of program.now.code.now) program.now.starts.now) program.now.settings.arity offs.now a result.1.clauses.leaders.now result.1.heads.now result.1.sizes.now result.0.leaders.now result.1.bits.now result.1.clauses.opens.now }
-        ensures of_whole { (result.0.opens.now ≡ result.1.clauses.opens.now) × (result.0.offs.now ≡ offs.now) × (result.0.tags.now ≡ tags.now) }
-        ensures of_columns { (result.1.clauses.offs.now ≡ offs.now) × (result.1.clauses.tags.now ≡ tags.now) }
+    fn fill_fronts(&mut self, line: &Line) -> Fronts<'_>
+        ensures leaders_len { (length result.leaders.now ≡ length line.now.offs.now) × (length result.heads.now ≡ length line.now.offs.now) × (length result.whole.now ≡ length line.now.offs.now) }
+        ensures bits_len { (length result.bits.now ≡ length line.now.offs.now) × (length result.opens.now ≡ 32 * length line.now.offs.now) }
+        ensures filled { ColumnsOf (keys_by line.now.program) line.now.program.settings.arity line.now.offs.now line.now.arg result.leaders.now result.heads.now result.sizes.now result.whole.now result.bits.now result.opens.now }
     {
-        let n = offs.len();
+        let n = line.offs.len();
         let ColumnArrays {
             leaders,
             heads,
@@ -261,35 +238,56 @@ impl ColumnArrays {
         let whole = &mut whole[..n];
         let bits = &mut bits[..n];
         let opens = &mut opens[..32 * n];
-        fill_columns(program, offs, a, leaders, heads, sizes, whole, bits, opens);
-        let whole = Clauses {
-            leaders: whole,
-            opens,
-            offs,
-            tags,
-        };
-        let columns = Columns {
-            clauses: Clauses {
-                leaders,
-                opens: whole.opens,
-                offs,
-                tags,
-            },
+        fill_columns(line, leaders, heads, sizes, whole, bits, opens);
+        Fronts {
+            leaders,
             heads,
-            bits,
             sizes,
+            whole,
+            bits,
+            opens,
+        }
+    }
+
+    // A line's clauses with these tags, first as one bucket, led by clause 0, and then with their keys at its argument in the buckets of these.
+    pub fn fill<'a>(&'a mut self, line: &Line<'_, 'a>, tags: &'a [u8]) -> (Clauses<'a>, Columns<'a>)
+        requires { length tags.now ≡ length line.now.offs.now }
+        ensures { Filled line.now.program line.now.offs.now tags.now line.now.arg result.0 result.1 }
+    {
+        let fronts = self.fill_fronts(line);
+        let settings = line.program.settings;
+        let arg = line.arg;
+        let offs = line.offs;
+        let heads = Heads {
+            leaders: fronts.leaders,
+            heads: fronts.heads,
+            dynamic: settings.dynamic,
         };
-        (whole, columns)
+        let sizes = fronts.sizes;
+        let bits = fronts.bits;
+        let rooms = LineRooms {
+            buckets: Buckets { heads, sizes },
+            opens: fronts.opens,
+            switched: Switched { settings, arg },
+        };
+        let lines = NewLines { rooms, offs, tags };
+        let opens = Opens {
+            leaders: fronts.whole,
+            opens: fronts.opens,
+        };
+        let tables = Tables { opens, offs };
+        (Clauses { tables, tags }, Columns { lines, bits })
     }
 }
 
-// The offsets and tags of the m offset records from place q on.
-pub fn read_choices(index: &[u8], q: usize, m: usize, offs: &mut [u32], tags: &mut [u8])
-    requires { (q + m ≤ length (records_of index.now)) × (length offs.old ≡ m) × (length tags.old ≡ m) }
-    ensures offs_after { offs.new ≡ words_of (slice q (q + m) (records_of index.now)) }
-    ensures tags_after { tags.new ≡ subs_of (slice q (q + m) (records_of index.now)) }
+// The offsets and tags of the offset records from place q on, as many as there are places for.
+pub fn read_choices(index: &[u8], q: usize, offs: &mut [u32], tags: &mut [u8])
+    requires { (q + length offs.old ≤ length (records_of index.now)) × (length tags.old ≡ length offs.old) }
+    ensures offs_after { offs.new ≡ words_of (slice q (q + length offs.old) (records_of index.now)) }
+    ensures tags_after { tags.new ≡ subs_of (slice q (q + length offs.old) (records_of index.now)) }
 {
-    for i in 0..m {
+    // By place: a zip with an iter_mut was tried, and a proof learns nothing of what it writes.
+    for i in 0..offs.len() {
         let r = records::get(index, q + i);
         offs[i] = r.word;
         tags[i] = r.sub;
@@ -302,8 +300,9 @@ pub fn start_offsets(starts: &[u32], offs: &mut [u32])
     requires numbers_below { NumbersBelow 32768 starts.now }
     ensures { offs.new ≡ offsets_of starts.now }
 {
-    for i in 0..starts.len() {
-        offs[i] = starts[i] + 1;
+    // A start is read by place: a zip of starts with an iter_mut was tried, and a proof learns nothing of what it writes.
+    for (i, offset) in offs.iter_mut().enumerate() {
+        *offset = starts[i] + 1;
     }
 }
 

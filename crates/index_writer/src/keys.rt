@@ -1,6 +1,7 @@
 // The keys of a line's clauses at one argument, in columns: each key is two numbers, its sort and arity in one, and its bits.
 ghost use Rattle.std.specs.Prelude.{◌≡◌, ◌≤◌, length};
 
+// A place becomes a u32 by `as`: there are at most 1,024 clauses.
 #[derive(Clone, Copy)]
 pub struct Keys<'a> {
     pub heads: &'a [u32],
@@ -26,11 +27,6 @@ impl Keys<'_> {
         requires { j < length self.now.heads.now }
         ensures { result ≡ leader_of self.now.heads.now self.now.bits.now j }
     {
-        for i in 0..j {
-            if self.same_at(i, j) {
-                return i as u32;
-            }
-        }
-        j as u32
+        (0..j).find(|i| self.same_at(*i, j)).unwrap_or(j) as u32
     }
 }

@@ -7,7 +7,8 @@ use Prim.Native.Nat.{ℕ, zero, suc, ◌+◌, ◌≤◌, ◌<◌}
 use native.Mathlib.Decide.{ℕ_discrete}
 use native.Mathlib.Numerals.{add-one}
 use native.Mathlib.Omega.{arith}
-use lib.Dec.{eqb}
+use borrow.Author.Tests.{ltb-true, ltb-false}
+use lib.Dec.{eqb, ltb}
 use lib.ListN.{length, get_or, set, length-set}
 use lib.Seq.{get_or-set_same, get_or-set_other}
 use Rattle.indexing.proofs.Tests.{eqb_same, eqb-true, bool-absurd}
@@ -32,49 +33,75 @@ module _ (holds : ℕ → ℕ → Bool) where
       go true e = refl
       go false e = absurd (omega (arith, latest-within b m))
 
-  -- ---- a chain followed: answer p is what the items up to number p tell, and those that bucket b does not hold tell nothing
+  -- ---- a chain followed
 
-  module _ {A : Type 0} (links : List ℕ) (b n : ℕ) (answer : ℕ → A) where
-    -- item p is the latest of bucket b up to p, and those up to p tell what all of them tell
+  -- the latest item of a bucket is the latest up to itself
+  latest-here : (b m : ℕ) → latest holds b m ≡ latest holds b (latest holds b m)
+  unfolding latest
+  latest-here b zero = refl
+  latest-here b (suc m) = go (holds b m) refl (latest-here b m)
+    where
+      go : (t : Bool) → holds b m ≡ t → latest holds b m ≡ latest holds b (latest holds b m)
+          → cond t (suc m) (latest holds b m) ≡ latest holds b (cond t (suc m) (latest holds b m))
+      go true e ih = rw e refl
+      go false e ih = ih
+
+  -- behind it the bucket holds none
+  latest-after : (b m i : ℕ) → latest holds b m ≤ i → i < m → holds b i ≡ true → ⊥
+  unfolding latest
+  latest-after b zero i l h e = omega arith
+  latest-after b (suc m) i l h e = go (holds b m) refl l (ℕ_discrete i m) (λ k w. latest-after b m i k w e)
+    where
+      go : (t : Bool) → holds b m ≡ t → cond t (suc m) (latest holds b m) ≤ i → Dec (i ≡ m) → (latest holds b m ≤ i → i < m → ⊥) → ⊥
+      go true f l d ih = omega arith
+      go false f l (yes q) ih = bool-absurd e (ap (holds b) q ∙ f)
+      go false f l (no q) ih = ih l (omega arith)
+
+  module _ (b n : ℕ) where
+    -- number p is reached in the chain of bucket b
     pub record Reached (p : ℕ) : Type 0 where
       pub within : p ≤ n
-      pub left : answer p ≡ answer n
       pub here : p ≡ latest holds b p
-
-    module _ (quiet : (i : ℕ) → i < n → holds b i ≡ false → answer (suc i) ≡ answer i) where
-      reach : (m : ℕ) → m ≤ n → answer m ≡ answer n → Reached (latest holds b m)
-      unfolding latest
-      reach zero h a = record { within = h; left = a; here = refl }
-      reach (suc m) h a = go (holds b m) refl (reach m (omega arith))
-        where
-          go : (t : Bool) → holds b m ≡ t → (answer m ≡ answer n → Reached (latest holds b m)) → Reached (cond t (suc m) (latest holds b m))
-          go true e ih = record { within = h; left = a; here = rw e refl }
-          go false e ih = ih (sym (quiet m h e) ∙ a)
-
-      module _ (firsts : List ℕ) (C : Chained holds firsts links n) where
-        -- a chain begins at its bucket
-        pub chain-start : b < length firsts → Reached (get_or firsts b 0)
-        chain-start h = rw (C.first b h) (reach n (omega arith) refl)
-
-        linked : (p m : ℕ) → p ≡ suc m → Reached p → get_or links m 0 ≡ latest holds b m
-        linked p m e x =
-            let w : suc m ≡ latest holds b (suc m) = rw e at x.here in
-            C.next b m (omega (arith, x.within)) (latest-own b m w)
-
-        -- the next item of a chain has a lower number
-        pub chain-less : (p m : ℕ) → p ≡ suc m → Reached p → get_or links m 0 ≤ m
-        chain-less p m e x = omega (arith, linked p m e x, latest-within b m)
-
-        pub chain_next : (p m : ℕ) → p ≡ suc m → Reached p → answer (suc m) ≡ answer m → Reached (get_or links m 0)
-        chain_next p m e x a =
-            let w : answer (suc m) ≡ answer n = rw e at x.left in
-            rw (linked p m e x) (reach m (omega (arith, x.within)) (sym a ∙ w))
 
     -- an item of a chain is in the bucket
     pub chain-own : (p m : ℕ) → p ≡ suc m → Reached p → holds b m ≡ true
     chain-own p m e x =
         let w : suc m ≡ latest holds b (suc m) = rw e at x.here in
         latest-own b m w
+
+    -- the items from number p on that the bucket holds do not pass a test
+    abbrev pub Failed : (ℕ → Bool) → ℕ → Type 0
+    Failed t p = (i : ℕ) → p ≤ i → i < n → holds b i ≡ true → t i ≡ false
+
+    module _ (firsts links : List ℕ) (C : Chained holds firsts links n) where
+      -- a chain begins at its bucket
+      pub chain-start : b < length firsts → Reached (get_or firsts b 0)
+      chain-start h = rw (C.first b h) (record { within = latest-within b n; here = latest-here b n })
+
+      linked : (p m : ℕ) → p ≡ suc m → Reached p → get_or links m 0 ≡ latest holds b m
+      linked p m e x = C.next b m (omega (arith, x.within)) (chain-own p m e x)
+
+      pub chain_next : (p m : ℕ) → p ≡ suc m → Reached p → Reached (get_or links m 0)
+      chain_next p m e x =
+          rw (linked p m e x) (record { within = omega (arith, x.within, latest-within b m); here = latest-here b m })
+
+      module _ (t : ℕ → Bool) where
+        pub failed-start : b < length firsts → Failed t (get_or firsts b 0)
+        failed-start h i l k e = absurd (latest-after b n i (omega (arith, C.first b h)) k e)
+
+        pub failed-next : (p m : ℕ) → p ≡ suc m → Reached p → t m ≡ false → Failed t p → Failed t (get_or links m 0)
+        failed-next p m e x f g i l k h = go (ℕ_discrete i m)
+          where
+            below : i < m → t i ≡ false
+            below w = absurd (latest-after b m i (omega (arith, linked p m e x)) w h)
+
+            go : Dec (i ≡ m) → t i ≡ false
+            go (yes q) = ap t q ∙ f
+            go (no q) = other (ltb i m) refl
+              where
+                other : (s : Bool) → ltb i m ≡ s → t i ≡ false
+                other true w = below (ltb-true i m w)
+                other false w = g i (omega (arith, q, ltb-false i m w)) k h
 
   -- ---- an item more
 

@@ -1,7 +1,9 @@
 -- Buckets of numbered items, as two columns hold them: each bucket has the number of the latest of its items, and each item that of the one before it in
 -- its bucket. Items are counted from 1, so that 0 is none. Inner definitions, for contracts of functions that find equal keys by buckets.
 -- Assumes nothing.
-use Rattle.std.specs.Prelude.{◌≡◌, Bool, true, cond, List, ℕ, zero, suc, ◌+◌, ◌*◌, ◌%◌, ◌<◌, length, get_or}
+use Rattle.std.specs.Prelude.{◌≡◌, Bool, true, false, cond, List, ℕ, zero, suc, ◌+◌, ◌*◌, ◌%◌, ◌<◌, length, get_or, ⊤}
+use Rattle.indexing.specs.declared.key_buckets.Searched.{Searched}
+use Rattle.indexing.specs.declared.key_buckets.Searched.TheVariants.{Found, Nowhere, Open}
 
 -- the bucket of a key by its two numbers, of size many: equal keys have the same
 unfoldable pub bucket_by : ℕ → ℕ → ℕ → ℕ
@@ -18,3 +20,13 @@ pub record Chained (holds : ℕ → ℕ → Bool) (firsts links : List ℕ) (n :
   pub first : (b : ℕ) → b < length firsts → get_or firsts b 0 ≡ latest holds b n
   -- each item has the latest one before it in its bucket
   pub next : (b i : ℕ) → i < n → holds b i ≡ true → get_or links i 0 ≡ latest holds b i
+
+-- a table has 0 at every place
+abbrev pub Cleared : List ℕ → Type 0
+Cleared table = (i : ℕ) → get_or table i 0 ≡ 0
+
+-- what the items before item n that bucket b holds tell of a test
+abbrev pub Tells : (ℕ → ℕ → Bool) → ℕ → ℕ → (ℕ → Bool) → Searched → Type 0
+Tells holds b n t (Found i) = (i < n) × (holds b i ≡ true) × (t i ≡ true)
+Tells holds b n t Nowhere = (i : ℕ) → i < n → holds b i ≡ true → t i ≡ false
+Tells holds b n t Open = ⊤

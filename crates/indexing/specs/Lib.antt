@@ -1,5 +1,6 @@
 pub mod Lists
 pub mod Kinds
+pub mod Tags
 pub mod Lines
 pub mod Reading
 pub mod Build

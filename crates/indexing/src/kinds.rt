@@ -14,10 +14,11 @@ pub enum Kind {
     DeadClause = 7,
 }
 
-// A number that no record of an index has as its kind.
+// A number that no record of an index has as its kind: the number that was met, for whoever reports it.
 #[derive(Clone, Copy, Debug, PartialEq, Eq)]
 pub struct UnknownKind(pub u8);
 
+// Tag has such an impl too: each enum has its own cases, and an impl by a macro of our own is refused by `rt ci`.
 impl TryFrom<u8> for Kind {
     type Error = UnknownKind;
 

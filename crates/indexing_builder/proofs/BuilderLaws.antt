@@ -17,6 +17,7 @@ use Rattle.records.proofs.Grown.{written-front}
 use Rattle.records.proofs.Whole.{Bytes}
 use Rattle.indexing_iter.specs.declared.OptArgIndexKey.{OptArgIndexKey as Key}
 use Rattle.indexing_iter.specs.declared.Settings.{Settings}
+use Rattle.indexing_iter.specs.declared.program.Program.{Program}
 use Rattle.indexing_iter.specs.Refusals.{passed}
 use Rattle.std.specs.Prelude.{Result, Ok, Err}
 use Rattle.indexing_iter.specs.declared.refusal.Refusal.{Refusal}
@@ -27,13 +28,18 @@ use Rattle.indexing_iter.specs.Checks.{check_build}
 use Rattle.indexing_builder.specs.declared.Built.{Built}
 use Rattle.indexing.specs.Lines.{Index, records, mode_of, size}
 use Rattle.indexing.specs.Build.{program_by, build}
-use Rattle.indexing.specs.Columns.{switch_recs, new_lines_recs, seed_recs}
-use Rattle.indexing.specs.Expanding.{heads_at, bits_at, leaders_at, ColumnsOf}
+use Rattle.indexing.specs.Columns.{seed_recs}
+use Rattle.indexing.specs.Expanding.{heads_at, bits_at, leaders_at}
 use Rattle.indexing.specs.Builder.{capacity_of, stored, built_by, index_of, build_call}
 use Rattle.indexing_builder.specs.Answer.{built_of}
 use Rattle.indexing_builder.specs.Building.{answer_by, Builds, Building}
 use Rattle.indexing.proofs.Stored.{capacity-within, stored-wrote}
-use Rattle.index_writer.proofs.IndexLaws.{switch-some, seeds_of, switch_of, lines_of, seeds-are, switch-is, lines_are, size_is, splice-is}
+use Rattle.index_writer.specs.declared.clauses.Clauses.{Clauses}
+use Rattle.index_writer.specs.declared.clauses.Columns.{Columns}
+use Rattle.index_writer.specs.Filling.{Filled}
+use Rattle.index_writer.specs.Written.{seed_by, switch_in, new_lines_by}
+use Rattle.index_writer.proofs.FillingLaws.{first-seeds, first-switch, first-lines}
+use Rattle.index_writer.proofs.IndexLaws.{switch-some, seeds_of, switch_of, lines_of, size_is, splice-is}
 
 -- ---- answers
 
@@ -130,10 +136,11 @@ module _ (code starts : List ℕ) (S : Settings) (c : ℕ) (accepted : check_bui
           ∙ ap (λ (y : List ℕ). built_of (Ok (record { count = size idx; variable = cond S.skip 2 1 })) y)
           (left b b' room h h' (subst (λ (x : Result Built Refusal). Builds x b b' seeds switch lines) f w.leaves))
 
-  -- the same by the columns
-  module _ {os tags leaders heads sizes zeros bits opens : List ℕ} (o : os ≡ offsets_of starts) (t : tags ≡ replicate (length starts) 7)
-      (C : ColumnsOf K S.arity os c leaders heads sizes zeros bits opens) where
-    pub built-by : (b b' : List ℕ) (r : Result Built Refusal) → Bytes b → Bytes b'
-        → Building r S.skip b b' (seed_recs zeros opens os tags S c) (switch_recs leaders heads bits os S.dynamic c 1) (new_lines_recs leaders heads opens os tags S c 1)
-        → built_of r b' ≡ build_call class_of code starts S c b
-    built-by b b' r h h' w = built b b' r h h' (rw (seeds-are code starts S c o t C, switch-is code starts S c o t C, lines_are code starts S c o t C) at w)
+-- the same by the columns of the first line
+pub built-by : {p : Program} {c : ℕ} {w : Clauses} {C : Columns} → check_build class_of p.settings.arity c p.code.now p.starts.now ≡ passed
+    → Filled p (offsets_of p.starts.now) (replicate (length p.starts.now) 7) c w C → (b b' : List ℕ) (r : Result Built Refusal) → Bytes b → Bytes b'
+    → Building r C.lines.rooms.switched.settings.skip b b' (seed_by w C.lines.rooms.switched) (switch_in C 1) (new_lines_by C.lines 1)
+    → built_of r b' ≡ build_call class_of p.code.now p.starts.now p.settings c b
+built-by {p} {c} accepted F b b' r h h' x =
+    built p.code.now p.starts.now p.settings c accepted b b' r h h'
+    (rw (first-seeds F F.whole-offs F.whole-tags, first-switch F, first-lines F, F.settings) at x)

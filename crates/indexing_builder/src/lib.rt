@@ -9,16 +9,15 @@ ghost use Rattle.records.specs.Records.{records_of};
 ghost use Rattle.indexing_iter.specs.Refusals.{passed};
 ghost use Rattle.indexing_iter.specs.Classes.{class_of};
 ghost use Rattle.indexing_iter.specs.Checks.{check_build};
-ghost use Rattle.index_writer.specs.Written.{switch_by, seed_by, new_lines_by};
+ghost use Rattle.index_writer.specs.Written.{switch_in, seed_by, new_lines_by};
 ghost use Rattle.indexing.specs.Builder.{capacity_of, build_call};
 ghost use Rattle.indexing_builder.specs.Answer.{built_of};
 ghost use Rattle.indexing_builder.specs.Building.{Building};
 
 use crate::expansion::OnDemand;
 use index_writer::clauses::{Clauses, Columns};
-use index_writer::columns::ColumnArrays;
-use index_writer::switched::Switched;
-use index_writer::{buckets, columns, lines, rooms};
+use index_writer::first_line::FirstLine;
+use index_writer::{lines, rooms};
 use indexing_iter::program::Program;
 use indexing_iter::refusal::Refusal;
 use indexing_iter::{Settings, checks};
@@ -47,57 +46,41 @@ fn variable_offset(skip: bool) -> u32
 
 // Writes the built index where there is room for it: line 0 as it is before its switch is made, then that switch in place of its
 // on-demand record, which is the second one, and the lines from 1 on. Line 0 has the clauses in one bucket.
-fn write_index(
-    index: &mut [u8],
-    whole: &Clauses,
-    columns: &Columns,
-    switched: Switched,
-) -> Result<Built, Refusal>
-    requires { 1 ≤ switched.arg }
-    ensures { Building result switched.settings.skip index.old index.new (seed_by whole.now switched.settings switched.arg) (switch_by columns.now switched.settings.dynamic switched.arg 1) (new_lines_by columns.now switched.settings switched.arg 1) }
+fn write_index(index: &mut [u8], whole: &Clauses, columns: &Columns) -> Result<Built, Refusal>
+    requires { 1 ≤ columns.now.lines.rooms.switched.arg }
+    ensures { Building result columns.now.lines.rooms.switched.settings.skip index.old index.new (seed_by whole.now columns.now.lines.rooms.switched) (switch_in columns.now 1) (new_lines_by columns.now.lines 1) }
 {
-    let settings = switched.settings;
-    let room = capacity(index);
-    let n = rooms::seed_room(whole, switched);
-    let k = buckets::switch_room(columns, settings.dynamic) - 1;
-    let count = n + k + rooms::new_lines_room(columns, switched);
-    if room < count {
+    let switched = columns.lines.rooms.switched;
+    let capacity = capacity(index);
+    let room = rooms::index_room(&whole.tables.opens, &columns.lines.rooms);
+    if capacity < room.count {
         return Err(Refusal::NoRoom);
     }
     lines::put_seed(index, whole, switched);
     let table = OnDemand {
         arg: switched.arg,
         at: 1,
-        count: n,
+        count: room.line,
         line: 0,
         lines: 1,
-        capacity: room,
+        capacity,
     };
-    expansion::write_switch(index, table, k, columns, settings);
+    expansion::write_switch(index, table, room.more, columns);
     Ok(Built {
-        count,
-        variable: variable_offset(settings.skip),
+        count: room.count,
+        variable: variable_offset(switched.settings.skip),
     })
 }
 
-// Builds the index of checked code: of arrays for 1,024 clauses it takes as much as there are clauses.
+// Builds the index of checked code.
+// It asks check_build .. ≡ passed, as FirstLine::fill does: the field of Program and number 8 say it together.
 fn build_checked(program: &Program, c: u32, index: &mut [u8]) -> Result<Built, Refusal>
     requires { check_build class_of program.now.settings.arity c program.now.code.now program.now.starts.now ≡ passed }
     ensures { built_of result index.new ≡ build_call class_of program.now.code.now program.now.starts.now program.now.settings c index.old }
 {
-    let mut offs = [0u32; 1024];
-    let mut tags = [0u8; 1024];
-    let mut arrays = ColumnArrays::new();
-    let m = program.starts.len();
-    let offs = &mut offs[..m];
-    let tags = &mut tags[..m];
-    columns::start_choices(program.starts, offs, tags);
-    let (whole, columns) = arrays.fill(program, offs, tags, c);
-    let switched = Switched {
-        settings: program.settings,
-        arg: c,
-    };
-    write_index(index, &whole, &columns, switched)
+    let mut first = FirstLine::new();
+    let (whole, columns) = first.fill(program, c);
+    write_index(index, &whole, &columns)
 }
 
 // Builds the index of the code's clauses, its first switch on argument c, and returns its record count and the variable offset.
@@ -117,5 +100,6 @@ pub fn compute_indices(
         starts,
         settings,
     };
+    // check_build said that c is at most 32: it is a u32.
     build_checked(&program, c as u32, index)
 }

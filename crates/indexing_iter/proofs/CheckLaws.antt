@@ -12,97 +12,29 @@ use lib.ListN.{length, get_or, drop, drop_of_length-le}
 use lib.Seq.{drop-cons, slice}
 use borrow.Author.Tests.{leb-true, ltb-true, ltb-false, eqb-true, eqb-false, not-false, eq-eqb}
 use Rattle.records.specs.declared.Rec.{Rec}
-use Rattle.records.specs.Records.{records_of, zero_rec}
+use Rattle.records.specs.Records.{records_of}
 use Rattle.records.proofs.Laws.{length-records_of}
-use Rattle.indexing_iter.specs.declared.InstructionArg.{InstructionArg}
-use Rattle.indexing_iter.specs.declared.InstructionArg.TheVariants.{ArgedHead, ArglessHead, NonHead, Prologue}
 use Rattle.indexing_iter.specs.Refusals.{Checked, passed}
 use Rattle.std.specs.Prelude.{Ok, Err}
 use Rattle.indexing_iter.specs.declared.refusal.Refusal.{Refusal}
-use Rattle.indexing_iter.specs.declared.refusal.Refusal.TheVariants.{Arity, ChosenArgument, CodeSize, Starts, NoBody, KeyRecord, Register, OpenClause}
-use Rattle.indexing_iter.specs.Classes.{arg_of_class, instruction_arg}
+use Rattle.indexing_iter.specs.declared.refusal.Refusal.TheVariants.{Arity, ChosenArgument, CodeSize, Starts, OpenClause}
 use Rattle.indexing_iter.specs.Keys.{key_in, is_open}
 use Rattle.indexing_iter.specs.Clauses.{end_of, clauses_of, offsets_of, clause_at, key_of, known}
-use Rattle.indexing_iter.specs.Checks.{rising_below, is_body, has_body, record_bad, register_bad, register_step, check_records, check_clause, otherwise, refuse, check_arity, check_chosen, check_size, check_starts, check_clauses, open_somewhere, check_keyed, check_clauses_of, check_code, check_build}
-use Rattle.indexing_iter.proofs.Parts.{slice-step, slice-done}
+use Rattle.indexing_iter.specs.Checks.{rising_below, otherwise, refuse, check_arity, check_chosen, check_size, check_starts, check_clauses, open_somewhere, check_keyed, check_clauses_of, check_code, check_build}
 use Rattle.indexing_iter.proofs.SameKeys.{and_left, and_right, or_left, or_right}
 
 pub drop-step : (s : List ℕ) (i : ℕ) → i < length s → drop i s ≡ get_or s i 0 ∷ drop (i + 1) s
 drop-step s i h = rw (add-one i) (drop-cons s i 0 h)
 
--- two neighbours, and what is left after the first of them
-pub rising_step : (n : ℕ) (s : List ℕ) (i : ℕ) → i + 1 < length s
-    → rising_below n (drop i s) ≡ (ltb (get_or s i 0) (get_or s (i + 1) 0) && rising_below n (drop (i + 1) s))
+-- a start, and those left after it
+pub rising-step : (n x : ℕ) (s : List ℕ) (i : ℕ) → i < length s
+    → rising_below n (x ∷ drop i s) ≡ (ltb x (get_or s i 0) && rising_below n (get_or s i 0 ∷ drop (i + 1) s))
 unfolding rising_below
-rising_step n s i h = rw (drop-step s i (omega arith), drop-step s (i + 1) h) refl
+rising-step n x s i h = rw (drop-step s i h) refl
 
-pub rising-last : (n : ℕ) (s : List ℕ) (i : ℕ) → i + 1 ≡ length s → rising_below n (drop i s) ≡ ltb (get_or s i 0) n
+pub rising-last : (n x : ℕ) (s : List ℕ) (i : ℕ) → length s ≤ i → rising_below n (x ∷ drop i s) ≡ ltb x n
 unfolding rising_below
-rising-last n s i e =
-    let past : length s ≤ i + 1 = omega arith in
-    let zero_rec : drop (i + 1) s ≡ [] = drop_of_length-le s past in
-    rw (drop-step s i (omega arith), zero_rec) refl
-
-pub body-step : (cls : ℕ → ℕ) (rs : List Rec) (i end : ℕ) → i < end → end ≤ length rs
-    → has_body cls (slice i end rs) ≡ (is_body (instruction_arg cls (get_or rs i zero_rec)) || has_body cls (slice (i + 1) end rs))
-unfolding has_body
-body-step cls rs i end h k = rw (slice-step rs i end h k) refl
-
-pub body-none : (cls : ℕ → ℕ) (rs : List Rec) (i end : ℕ) → end ≤ i → has_body cls (slice i end rs) ≡ false
-unfolding has_body
-body-none cls rs i end h = rw (slice-done rs i end h) refl
-
--- ---- 5 to 7 of a clause in one pass
-
--- the records left of a clause, last the register of its key before them
-pub clause_from : (ℕ → ℕ) → ℕ → List Rec → ℕ → Checked
-clause_from cls arity rs last = cond (has_body cls rs) (check_records cls arity rs last) (Err NoBody)
-
--- one record, whether its 6 applies, what it says, whether it or a later one is a body record, and the answer of those after it:
--- where its 6 or 7 applies and no body record is left, it is 5 that comes first
-abbrev pub clause_step : Bool → InstructionArg → Bool → ℕ → ℕ → (ℕ → Checked) → Checked
-clause_step true a found arity last rest = Err (cond found KeyRecord NoBody)
-clause_step false NonHead found arity last rest = passed
-clause_step false Prologue found arity last rest = rest last
-clause_step false ArglessHead found arity last rest = rest last
-clause_step false (ArgedHead reg key) found arity last rest = cond (register_bad arity last reg) (Err (cond found Register NoBody)) (rest reg)
-
-refused-by : (found : Bool) (e : Refusal) → ◌≡◌ {A = Checked} (cond found (Err e) (Err NoBody)) (Err (cond found e NoBody))
-refused-by true e = refl
-refused-by false e = refl
-
-inside : (t more : Bool) (e : Refusal) (y : Checked)
-    → cond more (cond t (Err e) y) (Err NoBody) ≡ cond t (Err (cond more e NoBody)) (cond more y (Err NoBody))
-inside true more e y = refused-by more e
-inside false more e y = refl
-
-one-pass : (bad : Bool) (a : InstructionArg) (more : Bool) (arity last : ℕ) (rest : ℕ → Checked)
-    → cond (is_body a || more) (cond bad (Err KeyRecord) (register_step a arity last rest)) (Err NoBody)
-    ≡ clause_step bad a (is_body a || more) arity last (λ l. cond more (rest l) (Err NoBody))
-one-pass true a more arity last rest = refused-by (is_body a || more) KeyRecord
-one-pass false NonHead more arity last rest = refl
-one-pass false Prologue more arity last rest = refl
-one-pass false ArglessHead more arity last rest = refl
-one-pass false (ArgedHead reg key) more arity last rest = inside (register_bad arity last reg) more Register (rest reg)
-
-pub clause-whole : (cls : ℕ → ℕ) (arity : ℕ) (rs : List Rec) → clause_from cls arity rs 0 ≡ check_clause cls arity rs
-unfolding clause_from check_clause
-clause-whole cls arity rs = refl
-
-pub clause-step : (cls : ℕ → ℕ) (arity : ℕ) (rs : List Rec) (i end last : ℕ) (r : Rec) (class : ℕ) → i < end → end ≤ length rs
-    → r ≡ get_or rs i zero_rec → class ≡ cls r.kind
-    → clause_from cls arity (slice i end rs) last
-    ≡ clause_step (record_bad class r) (arg_of_class class r) (has_body cls (slice i end rs)) arity last (clause_from cls arity (slice (i + 1) end rs))
-unfolding clause_from has_body check_records
-clause-step cls arity rs i end last r class h k e q =
-    let first : Rec = get_or rs i zero_rec in
-    let rest : List Rec = slice (i + 1) end rs in
-    rw (slice-step rs i end h k, q, e)
-    (one-pass (record_bad (cls first.kind) first) (arg_of_class (cls first.kind) first) (has_body cls rest) arity last (check_records cls arity rest))
-
-pub clause-none : (cls : ℕ → ℕ) (arity : ℕ) (rs : List Rec) (i end last : ℕ) → end ≤ i → clause_from cls arity (slice i end rs) last ≡ Err NoBody
-unfolding clause_from
-clause-none cls arity rs i end last h = rw (body-none cls rs i end h) refl
+rising-last n x s i h = rw (drop_of_length-le s h) refl
 
 -- ---- the starts
 
@@ -133,19 +65,6 @@ pub start_below : (n : ℕ) (s : List ℕ) (i : ℕ) → rising_below n s ≡ tr
 start_below n s i e h =
     let rest = rw (drop-step s i h) at (rising-drop n s i e) in
     rising-head n (get_or s i 0) (drop (i + 1) s) rest
-
-pub end-within : (m n : ℕ) (s : List ℕ) (i end : ℕ) → rising_below m s ≡ true → n ≡ m → end ≡ end_of n (drop i s) → end ≤ m
-end-within m n s i end e p q = rw (q, p) (end_below m (drop i s) (rising-drop m s i e))
-
--- the clause at i, which ends at end, and those after it
-pub clauses-step : (rs : List Rec) (s : List ℕ) (n i end : ℕ) → i < length s → n ≡ length rs → end ≡ end_of n (drop (i + 1) s)
-    → clauses_of rs (drop i s) ≡ slice (get_or s i 0) end rs ∷ clauses_of rs (drop (i + 1) s)
-unfolding clauses_of
-clauses-step rs s n i end h e q = rw (drop-step s i h, q, e) refl
-
-pub clauses-none : (rs : List Rec) (s : List ℕ) (i : ℕ) → length s ≤ i → clauses_of rs (drop i s) ≡ []
-unfolding clauses_of
-clauses-none rs s i h = rw (drop_of_length-le s h) refl
 
 -- ---- what a passed check tells
 

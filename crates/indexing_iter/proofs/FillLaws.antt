@@ -7,7 +7,7 @@ use mathlib.Core.List.{List, [], ◌∷◌, ◌++◌, map}
 use native.Mathlib.Omega.{arith}
 use lib.Dec.{eqb}
 use lib.ListN.{length, get_or, drop, set, replicate, length-set, length-replicate, length-map, get_or-replicate}
-use lib.Seq.{slice, drop_at, set-append_left, get_or-set_same, get_or-set_other, ext_get_or}
+use lib.Seq.{slice, set-append_left, get_or-set_same, get_or-set_other, ext_get_or}
 use borrow.Author.Tests.{eqb-true, eqb-false}
 use Rattle.records.specs.declared.Rec.{Rec}
 use Rattle.records.specs.Records.{records_of}
@@ -166,16 +166,8 @@ pub record Filling (cls : ℕ → ℕ) (arity : ℕ) (rs : List Rec) (heads bits
   pub bits-give : fill bits_of cls rs bits ≡ B
 
 -- f of the keys of the clause at offset o in the first arity numbers of l
-pub collected : (OptArgIndexKey → ℕ) → (ℕ → ℕ) → ℕ → List ℕ → List ℕ → ℕ → List ℕ → List ℕ
+abbrev pub collected : (OptArgIndexKey → ℕ) → (ℕ → ℕ) → ℕ → List ℕ → List ℕ → ℕ → List ℕ → List ℕ
 collected f cls arity code starts o l = map f (keys_of cls (records_of code) starts o arity) ++ drop arity l
-
--- what was there before the clearing does not matter
-pub collected-cleared : (f : OptArgIndexKey → ℕ) (cls : ℕ → ℕ) (arity : ℕ) (code starts : List ℕ) (o : ℕ) (l l' : List ℕ)
-    → l' ≡ replicate arity 0 ++ drop arity l → collected f cls arity code starts o l' ≡ map f (keys_of cls (records_of code) starts o arity) ++ drop arity l
-unfolding collected
-collected-cleared f cls arity code starts o l l' e =
-    ap (λ (d : List ℕ). map f (keys_of cls (records_of code) starts o arity) ++ d)
-    (ap (drop arity) e ∙ drop_at (replicate arity 0) (drop arity l) arity (length-replicate arity 0))
 
 module _ (cls : ℕ → ℕ) (arity : ℕ) (code starts : List ℕ) (o n : ℕ) (k : known starts o ≡ true) (e : check_code cls arity code starts ≡ passed)
     (q : n ≡ length (records_of code)) where
@@ -194,19 +186,18 @@ module _ (cls : ℕ → ℕ) (arity : ℕ) (code starts : List ℕ) (o n : ℕ) 
       ∙ check-records-append cls arity clause (drop is.end (records_of code)) is.body 0 ∙ is.passed
 
   fill-clause : (f : OptArgIndexKey → ℕ) (l l' : List ℕ) → f None ≡ 0 → l' ≡ replicate arity 0 ++ drop arity l
-      → fill f cls (slice (o - 1) n (records_of code)) l' ≡ collected f cls arity code starts o l'
+      → fill f cls (slice (o - 1) n (records_of code)) l' ≡ collected f cls arity code starts o l
   unfolding cleared
   fill-clause f l l' z p =
       ap₂ (fill f cls) on p
       ∙ fill_on f cls clause (drop is.end (records_of code)) is.body (cleared l arity)
       ∙ filled f cls arity clause l z is.passed
-      ∙ sym (collected-cleared f cls arity code starts o l l' p)
 
   -- both lists are cleared; reading goes on past the clause, and stops within it
   pub filling-start : (heads bits heads' bits' : List ℕ) → arity ≤ length heads' → arity ≤ length bits'
       → heads' ≡ replicate arity 0 ++ drop arity heads → bits' ≡ replicate arity 0 ++ drop arity bits
       → Filling cls arity (slice (o - 1) n (records_of code)) heads' bits'
-      (collected head_of cls arity code starts o heads') (collected bits_of cls arity code starts o bits')
+      (collected head_of cls arity code starts o heads) (collected bits_of cls arity code starts o bits)
   filling-start heads bits heads' bits' h i p r =
       record {
         last = 0;

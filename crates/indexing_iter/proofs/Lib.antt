@@ -1,4 +1,5 @@
 pub mod CheckLaws
+pub mod FaultLaws
 pub mod FillLaws
 pub mod SameKeys
 pub mod KeyLaws

@@ -5,5 +5,8 @@ pub mod Groups
 pub mod Programs
 pub mod Clauses
 pub mod Rows
+pub mod Readings
 pub mod Checks
 pub mod Faults
+pub mod Places
+pub mod Flags

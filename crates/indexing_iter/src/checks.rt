@@ -1,23 +1,27 @@
-// The checks of code, starts and settings: numbers 1 to 8 of document 01's table, the first that applies.
-ghost use Rattle.std.specs.Prelude.{◌≡◌, true, cond, ◌+◌, ◌≤◌, ◌<◌, length, drop, get_or};
-ghost use Rattle.std.proofs.Math.Seq.{slice};
+// The checks of code, starts and settings, numbers 1 to 8 of document 01's table, the first that applies; and the clause and the record at which 5 to 8 fail.
+// A u32 becomes a usize by `as`: there is no From for it. Each is proved to fit.
+// The loops go by the number of a record: records are sixteen bytes each of a byte buffer, so there is no slice of records to go over.
+ghost use Rattle.std.specs.Prelude.{◌≡◌, true, ◌+◌, ◌-◌, ◌≤◌, ◌<◌, length, drop};
 ghost use Rattle.records.specs.Records.{records_of};
 ghost use Rattle.indexing_iter.specs.declared.refusal.Refusal.TheVariants.{NoBody};
 ghost use Rattle.indexing_iter.specs.Classes.{class_of};
-ghost use Rattle.indexing_iter.specs.Clauses.{end_of, clauses_of};
-ghost use Rattle.indexing_iter.specs.Checks.{check_arity, check_chosen, check_size, rising_below, check_starts, has_body, key_fields_ok, record_bad, register_bad, check_clause, check_clauses, open_somewhere, check_clauses_of, check_code, check_build};
+ghost use Rattle.indexing_iter.specs.Clauses.{end_of};
+ghost use Rattle.indexing_iter.specs.Readings.{class_by, clauses_by};
+ghost use Rattle.indexing_iter.specs.Checks.{check_arity, check_chosen, check_size, rising_below, check_starts, key_fields_ok, record_bad, register_bad, check_clause, check_clauses, open_somewhere, check_clauses_of, check_code, check_build};
+ghost use Rattle.indexing_iter.specs.Faults.{refused_at, open_at};
+ghost use Rattle.indexing_iter.specs.Places.{body_found, passed_through, at_record, open_found, at_clause};
 
-use crate::InstructionArg;
 use crate::clauses::Clauses;
 use crate::reader::Reader;
 use crate::refusal::Refusal;
+use crate::{Fault, InstructionArg};
 use records::Rec;
 
 // 1: arity outside 1..32.
 pub fn check_arity(arity: u32) -> Result<(), Refusal>
     ensures { result ≡ check_arity arity }
 {
-    if arity < 1 || 32 < arity {
+    if !(1..=32).contains(&arity) {
         return Err(Refusal::Arity);
     }
     Ok(())
@@ -49,13 +53,14 @@ fn rising_below(starts: &[u32], n: usize) -> bool
     requires { 1 ≤ length starts.now }
     ensures { result ≡ rising_below n starts.now }
 {
-    let last = starts.len() - 1;
-    for i in 0..last {
-        if starts[i + 1] <= starts[i] {
+    let mut last = starts[0];
+    for &start in &starts[1..] {
+        if start <= last {
             return false;
         }
+        last = start;
     }
-    (starts[last] as usize) < n
+    (last as usize) < n
 }
 
 // 4: starts: none, over 1,024, not strictly rising, or at or past the code's end n.
@@ -68,39 +73,31 @@ pub fn check_starts(starts: &[u32], n: usize) -> Result<(), Refusal>
     Ok(())
 }
 
-// Whether one of the records from start up to end is a body record, by a table of classes.
-fn has_body(reader: &Reader, start: usize, end: usize) -> bool
-    requires { end ≤ length (records_of reader.now.code.now) }
-    ensures { result ≡ has_body (λ op. get_or reader.now.table.now op 0) (slice start end (records_of reader.now.code.now)) }
-{
-    for i in start..end {
-        let a = crate::extract_index_arg(reader, i);
-        let (InstructionArg::ArgedHead(_, _)
-        | InstructionArg::ArglessHead
-        | InstructionArg::Prologue) = a
-        else {
-            return true;
-        };
-    }
-    false
-}
-
+// 6 of a keyed record's fields. A class is a number of a table of bytes (see CLASS), here and in record_bad.
 fn key_fields_ok(class: u8, r: Rec) -> bool
     ensures { result ≡ key_fields_ok class r }
 {
     match class {
-        3 => 1 <= r.half && r.half <= 255,
-        5 => 1 <= r.half && r.half <= 3,
+        3 => (1..=255).contains(&r.half),
+        5 => (1..=3).contains(&r.half),
         _ => true,
     }
 }
 
-// 6 of one record.
+// 6 of one record. Of a keyed record with sub 0 the fields are read; with 1 to 3 it is a body record; above 3 one of bits 2 to 7 is set.
+// The match on sub is what lets LLVM test it once: the same by `/ 4` and `% 4` misses a speed bar.
 #[tactic(auto, unfolding(crate::specs::Checks::record_bad))]
 pub fn record_bad(class: u8, r: Rec) -> bool
     ensures { result ≡ record_bad class r }
 {
-    matches!(class, 3..=6) && (r.sub / 4 != 0 || r.sub % 4 == 0 && !key_fields_ok(class, r))
+    match class {
+        3..=6 => match r.sub {
+            0 => !key_fields_ok(class, r),
+            1..=3 => false,
+            _ => true,
+        },
+        _ => false,
+    }
 }
 
 // 7 of one register, last the register of the clause's key before it.
@@ -110,44 +107,82 @@ pub fn register_bad(arity: u32, last: u32, reg: u32) -> bool
     reg == 0 || arity < reg || reg <= last
 }
 
-// 6 or 7, met at a record: 5 comes first where neither that record nor a later one of the clause is a body record.
-fn refusal_from(reader: &Reader, i: usize, end: usize, refusal: Refusal) -> Refusal
-    requires { end ≤ length (records_of reader.now.code.now) }
-    ensures { result ≡ cond (has_body (λ op. get_or reader.now.table.now op 0) (slice i end (records_of reader.now.code.now))) refusal NoBody }
+// The `let .. else` is that of key_by, here and in pass_through: document 01 names the form, and each does another thing at a record.
+// The first body record of a clause, counted from its start.
+pub fn body_at(clause: &Reader) -> Option<usize>
+    ensures { result ≡ body_found (class_by clause.now) (records_of clause.now.code.now) }
 {
-    if has_body(reader, i, end) {
-        return refusal;
+    for i in 0..records::capacity(clause.code) {
+        let a = crate::extract_index_arg(clause, i);
+        let (InstructionArg::ArgedHead(_, _)
+        | InstructionArg::ArglessHead
+        | InstructionArg::Prologue) = a
+        else {
+            return Some(i);
+        };
     }
-    Refusal::NoBody
+    None
 }
 
-// 5 to 7 of the clause from start up to end, its 5 first, by a table of classes: one pass through the first body record.
-pub fn check_clause(reader: &Reader, start: usize, end: usize, arity: u32) -> Result<(), Refusal>
-    requires { end ≤ length (records_of reader.now.code.now) }
-    ensures { result ≡ check_clause (λ op. get_or reader.now.table.now op 0) arity (slice start end (records_of reader.now.code.now)) }
+// 6 and 7 of a clause, in one pass through its first body record: that record, none where the clause ends without one, or the refusal and its record.
+fn pass_through(clause: &Reader, arity: u32) -> Result<Option<usize>, (Refusal, usize)>
+    ensures { result ≡ passed_through (class_by clause.now) arity (records_of clause.now.code.now) }
 {
     let mut last = 0;
-    for i in start..end {
-        let r = records::get(reader.code, i);
-        let class = crate::class_in(reader.table, r.kind);
+    for i in 0..records::capacity(clause.code) {
+        let r = records::get(clause.code, i);
+        let class = crate::class_in(clause.table, r.kind);
         if record_bad(class, r) {
-            return Err(refusal_from(reader, i, end, Refusal::KeyRecord));
+            return Err((Refusal::KeyRecord, i));
         }
         let a = crate::arg_of_class(class, r);
         let (InstructionArg::ArgedHead(_, _)
         | InstructionArg::ArglessHead
         | InstructionArg::Prologue) = a
         else {
-            return Ok(());
+            return Ok(Some(i));
         };
         if let InstructionArg::ArgedHead(reg, _) = a {
             if register_bad(arity, last, reg) {
-                return Err(refusal_from(reader, i, end, Refusal::Register));
+                return Err((Refusal::Register, i));
             }
             last = reg;
         }
     }
-    Err(Refusal::NoBody)
+    Ok(None)
+}
+
+// 5, and the record that it is told of: the clause's last.
+fn no_body(clause: &Reader) -> (Refusal, usize)
+    ensures { result ≡ (NoBody, length (records_of clause.now.code.now) - 1) }
+{
+    (
+        Refusal::NoBody,
+        records::capacity(clause.code).saturating_sub(1),
+    )
+}
+
+// An Option, here and in first_refused: they tell what is at fault, and the definitions at_record and at_clause are Options.
+// 5 to 7 of a clause, its 5 first, and the record at fault.
+fn refused_in(clause: &Reader, arity: u32) -> Option<(Refusal, usize)>
+    ensures { result ≡ at_record (class_by clause.now) arity (records_of clause.now.code.now) (check_clause (class_by clause.now) arity (records_of clause.now.code.now)) }
+{
+    match pass_through(clause, arity) {
+        Ok(Some(_)) => None,
+        Ok(None) => Some(no_body(clause)),
+        Err(refused) if body_at(clause).is_some() => Some(refused),
+        Err(_) => Some(no_body(clause)),
+    }
+}
+
+// 5 to 7 of a clause.
+pub fn check_clause(clause: &Reader, arity: u32) -> Result<(), Refusal>
+    ensures { result ≡ check_clause (class_by clause.now) arity (records_of clause.now.code.now) }
+{
+    match refused_in(clause, arity) {
+        None => Ok(()),
+        Some((refusal, _)) => Err(refusal),
+    }
 }
 
 // Where clause i ends: at the next start, or at n.
@@ -161,33 +196,50 @@ pub fn clause_end(starts: &[u32], i: usize, n: usize) -> usize
     }
 }
 
+// 5 to 7: the fault of the first clause that is refused. Clauses go by number: a clause is a start and the next, and its number is told.
+pub fn first_refused(clauses: &Clauses) -> Option<Fault>
+    ensures { result ≡ at_clause (class_by clauses.now.reader) clauses.now.arity (records_of clauses.now.reader.code.now) clauses.now.starts.now (refused_at (class_by clauses.now.reader) clauses.now.arity (clauses_by clauses.now)) (check_clauses (class_by clauses.now.reader) clauses.now.arity (clauses_by clauses.now)) }
+{
+    for k in 0..clauses.starts.len() {
+        let clause = clauses.clause(k);
+        if let Some((refusal, at)) = refused_in(&clause, clauses.arity) {
+            return Some(Fault {
+                refusal,
+                clause: k,
+                at: clauses.starts[k] as usize + at,
+            });
+        }
+    }
+    None
+}
+
+// 8: the first clause with no key at argument j.
+pub fn first_open(clauses: &Clauses, j: u32) -> Option<usize>
+    ensures { result ≡ open_found (class_by clauses.now.reader) j (clauses_by clauses.now) }
+{
+    (0..clauses.starts.len()).find(|k| crate::is_open(crate::key_by(&clauses.clause(*k), j)))
+}
+
 // 5 to 7, clause by clause, by a table of classes.
 fn check_clauses(clauses: &Clauses) -> Result<(), Refusal>
-    ensures { result ≡ check_clauses (λ op. get_or clauses.now.reader.table.now op 0) clauses.now.arity (clauses_of (records_of clauses.now.reader.code.now) clauses.now.starts.now) }
+    ensures { result ≡ check_clauses (class_by clauses.now.reader) clauses.now.arity (clauses_by clauses.now) }
 {
-    for i in 0..clauses.starts.len() {
-        let (start, end) = clauses.range(i);
-        check_clause(&clauses.reader, start, end, clauses.arity)?;
+    match first_refused(clauses) {
+        None => Ok(()),
+        Some(fault) => Err(fault.refusal),
     }
-    Ok(())
 }
 
 // Whether some clause has no key at c, by a table of classes.
 fn open_somewhere(clauses: &Clauses, c: u32) -> bool
-    ensures { result ≡ open_somewhere (λ op. get_or clauses.now.reader.table.now op 0) c (clauses_of (records_of clauses.now.reader.code.now) clauses.now.starts.now) }
+    ensures { result ≡ open_somewhere (class_by clauses.now.reader) c (clauses_by clauses.now) }
 {
-    for i in 0..clauses.starts.len() {
-        let (start, end) = clauses.range(i);
-        if crate::is_open(crate::key_by(&clauses.reader, start, end, c)) {
-            return true;
-        }
-    }
-    false
+    first_open(clauses, c).is_some()
 }
 
 // 3 to 7, of the code with its starts, by a table of classes.
 fn check_clauses_of(reader: &Reader, starts: &[u32], arity: u32) -> Result<(), Refusal>
-    ensures { result ≡ check_clauses_of (λ op. get_or reader.now.table.now op 0) arity reader.now.code.now starts.now }
+    ensures { result ≡ check_clauses_of (class_by reader.now) arity reader.now.code.now starts.now }
 {
     check_size(reader.code)?;
     check_starts(starts, reader.code.len() / 16)?;
@@ -227,6 +279,7 @@ pub fn check_build(code: &[u8], starts: &[u32], arity: u32, c: u64) -> Result<()
         starts,
         arity,
     };
+    // c is at most the arity, checked above: a try_from would have a refusal that cannot come.
     if open_somewhere(&clauses, c as u32) {
         return Err(Refusal::OpenClause);
     }

@@ -1,4 +1,5 @@
 // The clauses of a code, by their starts.
+// A u32 becomes a usize by `as`: there is no From for it.
 ghost use Rattle.std.specs.Prelude.{◌≡◌, true, length};
 ghost use Rattle.records.specs.Records.{records_of};
 ghost use Rattle.indexing_iter.specs.Checks.{rising_below};
@@ -15,18 +16,21 @@ pub struct Clauses<'r, 's> {
     pub ghost rising: { rising_below (length (records_of reader.code.now)) starts.now ≡ true },
 }
 
-impl Clauses<'_, '_> {
-    ghost use Rattle.std.specs.Prelude.{◌+◌, ◌≤◌, ◌<◌, drop, get_or};
-    ghost use Rattle.indexing_iter.specs.Clauses.{end_of};
+impl<'r> Clauses<'r, '_> {
+    ghost use Rattle.std.specs.Prelude.{◌+◌, ◌≤◌, ◌<◌, get_or, []};
+    ghost use Rattle.indexing_iter.specs.Clauses.{clauses_of};
 
-    // Where clause i starts and ends.
-    pub fn range(&self, i: usize) -> (usize, usize)
+    // The code of clause i, with the table by which it is read.
+    pub fn clause(&self, i: usize) -> Reader<'r>
         requires { i < length self.now.starts.now }
-        ensures start { result.0 ≡ get_or self.now.starts.now i 0 }
-        ensures end { result.1 ≡ end_of (length (records_of self.now.reader.code.now)) (drop (i + 1) self.now.starts.now) }
-        ensures within { (result.0 < result.1) × (result.1 ≤ length (records_of self.now.reader.code.now)) }
+        ensures records { records_of result.code.now ≡ get_or (clauses_of (records_of self.now.reader.code.now) self.now.starts.now) i [] }
+        ensures classes { result.table.now ≡ self.now.reader.table.now }
+        ensures places_in_range { get_or self.now.starts.now i 0 + length (records_of result.code.now) < 18446744073709551616 }
     {
         let end = checks::clause_end(self.starts, i, records::capacity(self.reader.code));
-        (self.starts[i] as usize, end)
+        Reader {
+            table: self.reader.table,
+            code: records::part(self.reader.code, self.starts[i] as usize, end),
+        }
     }
 }

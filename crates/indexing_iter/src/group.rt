@@ -1,7 +1,19 @@
 // The groups of a switch's entries, in their order.
+ghost use Rattle.std.specs.Prelude.{◌≡◌};
+ghost use Rattle.indexing_iter.specs.Groups.{group_number};
+
 #[derive(Clone, Copy, Debug, PartialEq, Eq, PartialOrd, Ord)]
 pub enum Group {
     Literals = 1,
     List = 2,
     Structures = 3,
+}
+
+// The number of a group, 1 to 3.
+impl From<Group> for u32 {
+    ghost from_gives = { λ group n. n ≡ group_number group };
+
+    fn from(group: Group) -> u32 {
+        group as u32
+    }
 }

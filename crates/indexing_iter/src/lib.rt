@@ -1,10 +1,12 @@
 // The key reader: opcode classes, the keys of a clause, and the checks of code and starts, numbers 1 to 8.
 // Port of scryer-prolog's indexing_iter.rs: extract_index_arg, collect_opt_arg_index_keys, IndexedClauseView.
+// A u32 becomes a usize by `as`: there is no From for it. Each is proved to fit.
 #![tactic(auto)]
 
 pub mod checks;
 pub mod clause_view;
 pub mod clauses;
+pub mod flags;
 pub mod group;
 pub mod program;
 pub mod reader;
@@ -18,6 +20,7 @@ ghost use Rattle.indexing_iter.specs.Keys.{sort_of, arity_of, bits_of, group_of,
 ghost use Rattle.indexing_iter.specs.Refusals.{passed};
 ghost use Rattle.indexing_iter.specs.Groups.{group_code};
 ghost use Rattle.indexing_iter.specs.Clauses.{key_of, known};
+ghost use Rattle.indexing_iter.specs.Readings.{class_by, keys_by};
 ghost use Rattle.indexing_iter.specs.Rows.{head_by, head_of, same_bits, keys_of};
 ghost use Rattle.indexing_iter.specs.Checks.{check_code};
 
@@ -28,6 +31,7 @@ use records::Rec;
 use refusal::Refusal;
 
 // What indexing knows of one argument of a clause, or of a call.
+// None stays a case of its own, and no Option of a key: document 01 names the four cases.
 #[derive(Clone, Copy, Debug, PartialEq, Eq)]
 pub enum OptArgIndexKey {
     None,
@@ -37,7 +41,7 @@ pub enum OptArgIndexKey {
 }
 
 // What one code record says: a register together with its key, or that there is none.
-#[derive(Clone, Copy)]
+#[derive(Clone, Copy, Debug, PartialEq, Eq)]
 pub enum InstructionArg {
     ArgedHead(u32, OptArgIndexKey),
     ArglessHead,
@@ -46,8 +50,8 @@ pub enum InstructionArg {
 }
 
 // What refuses code, and where: the refusal, and the clause and the record of the code first at fault, both counted from 0; 0 where no clause
-// is at fault.
-#[derive(Clone, Copy)]
+// is at fault. These are numbers and no Option: the definition `bare`, of which fault_of is made, has 0 there, and the C interface lays them as they are.
+#[derive(Clone, Copy, Debug, PartialEq, Eq)]
 pub struct Fault {
     pub refusal: Refusal,
     pub clause: usize,
@@ -55,7 +59,7 @@ pub struct Fault {
 }
 
 // The settings of a predicate, passed by value on each call.
-#[derive(Clone, Copy)]
+#[derive(Clone, Copy, Debug, PartialEq, Eq)]
 pub struct Settings {
     pub arity: u32,
     pub mask: u32,
@@ -66,7 +70,7 @@ pub struct Settings {
 }
 
 // The class of each opcode: 1 prologue, 2 argless head, 3 GetStructure, 4 GetList, 5 GetConstant, 6 GetPartialString, 0 body.
-// A class stays a number, and is no enum: a table of classes is bytes, and a caller may hand in its own.
+// A class stays a number: a caller may hand in a table with any byte in it, and the public functions answer for any number, so an enum would ask more.
 const CLASS: [u8; 256] = [
     1, 1, 1, 1, 1, 1, 1, 1, 1, 1, 0, 0, 0, 0, 0, 0, 3, 4, 5, 6, 0, 0, 0, 0, 0, 0, 0, 0, 0, 0, 0, 0,
     2, 2, 2, 2, 2, 2, 2, 0, 0, 0, 0, 0, 0, 0, 0, 0, 0, 0, 0, 0, 0, 0, 0, 0, 0, 0, 0, 0, 0, 0, 0, 0,
@@ -85,15 +89,15 @@ pub fn classes() -> [u8; 256]
     CLASS
 }
 
-// The class of an opcode by a table of classes.
+// The class of an opcode by a table of classes, a number as its bytes are.
 pub fn class_in(table: &[u8], op: u8) -> u8
     requires { length table.now ≡ 256 }
     ensures { result ≡ get_or table.now op 0 }
 {
-    table[op as usize]
+    table[usize::from(op)]
 }
 
-// A key's sort: 1 atom, 2 integer, 3 float, 4 structure, 5 list, 0 none.
+// A key's sort: 1 atom, 2 integer, 3 float, 4 structure, 5 list, 0 none. It is the number that stands in a record's sub, where any byte may stand, and so no enum.
 pub fn sort_of(k: OptArgIndexKey) -> u16
     ensures { result ≡ sort_of k }
 {
@@ -141,7 +145,7 @@ pub fn is_open(k: OptArgIndexKey) -> bool
     matches!(k, OptArgIndexKey::None)
 }
 
-// A key's first number: its sort and arity in one. Its second are its bits.
+// A key's first number: its sort and arity in one. Its second are its bits. Columns of keys are lists of these numbers, in fixed memory.
 pub fn head_by(sort: u16, arity: u16) -> u32
     ensures { (result ≡ head_by sort arity) × (arity < 65536) }
 {
@@ -161,14 +165,14 @@ pub fn same_bits(head: u32, bits: u64, head2: u32, bits2: u64) -> bool
     head == head2 && bits == bits2
 }
 
-// Whether two keys are equal: sort, arity and bits are.
+// Whether two keys are equal: sort, arity and bits are. It has a name, beside `==`, since document 01 asks for one comparison of keys.
 pub fn same_key(a: OptArgIndexKey, b: OptArgIndexKey) -> bool
     ensures { result ≡ same a b }
 {
     a == b
 }
 
-// The key of a keyed record, by its class.
+// The key of a keyed record, by its class, a number (see CLASS).
 fn key_of_class(class: u8, r: Rec) -> OptArgIndexKey
     ensures { result ≡ key_of_class class r }
 {
@@ -179,7 +183,8 @@ fn key_of_class(class: u8, r: Rec) -> OptArgIndexKey
     }
 }
 
-// What a record of a class says of an argument.
+// What a record of a class, a number (see CLASS), says of an argument.
+// The range is tested behind `if`: with the pattern `3..=6 if ..` LLVM tests class and sub of a record twice in the checks, which misses a speed bar.
 #[tactic(auto, unfolding(crate::specs::Classes::arg_of_class))]
 pub fn arg_of_class(class: u8, r: Rec) -> InstructionArg
     ensures { result ≡ arg_of_class class r }
@@ -187,7 +192,9 @@ pub fn arg_of_class(class: u8, r: Rec) -> InstructionArg
     match class {
         1 => InstructionArg::Prologue,
         2 => InstructionArg::ArglessHead,
-        3..=6 if r.sub % 4 == 0 => InstructionArg::ArgedHead(r.word, key_of_class(class, r)),
+        _ if matches!(class, 3..=6) && r.sub % 4 == 0 => {
+            InstructionArg::ArgedHead(r.word, key_of_class(class, r))
+        }
         _ => InstructionArg::NonHead,
     }
 }
@@ -195,19 +202,19 @@ pub fn arg_of_class(class: u8, r: Rec) -> InstructionArg
 // What the code record at place i says of an argument, by a table of classes.
 pub fn extract_index_arg(reader: &Reader, i: usize) -> InstructionArg
     requires { i < length (records_of reader.now.code.now) }
-    ensures { result ≡ instruction_arg (λ op. get_or reader.now.table.now op 0) (get_or (records_of reader.now.code.now) i zero_rec) }
+    ensures { result ≡ instruction_arg (class_by reader.now) (get_or (records_of reader.now.code.now) i zero_rec) }
 {
     let r = records::get(reader.code, i);
     arg_of_class(class_in(reader.table, r.kind), r)
 }
 
-// The key at argument j that the records from start up to end give, by a table of classes. A body record ends the reading.
-pub fn key_by(reader: &Reader, start: usize, end: usize, j: u32) -> OptArgIndexKey
-    requires { end ≤ length (records_of reader.now.code.now) }
-    ensures { result ≡ key_in (λ op. get_or reader.now.table.now op 0) (slice start end (records_of reader.now.code.now)) j }
+// The key at argument j that a clause's records give. A body record ends the reading. Records go by number: there is no slice of them (see checks).
+// The `let .. else` stands here, in collect_keys, body_at and pass_through: document 01 names the form for key reading, and each does its own at a record.
+pub fn key_by(clause: &Reader, j: u32) -> OptArgIndexKey
+    ensures { result ≡ key_in (class_by clause.now) (records_of clause.now.code.now) j }
 {
-    for i in start..end {
-        let a = extract_index_arg(reader, i);
+    for i in 0..records::capacity(clause.code) {
+        let a = extract_index_arg(clause, i);
         let (InstructionArg::ArgedHead(_, _)
         | InstructionArg::ArglessHead
         | InstructionArg::Prologue) = a
@@ -223,35 +230,28 @@ pub fn key_by(reader: &Reader, start: usize, end: usize, j: u32) -> OptArgIndexK
     OptArgIndexKey::None
 }
 
-// The key at argument j that the records from start up to end give.
+// The key at argument j that the records from start up to end give; none where start is past the end.
+// It is public, and takes the code with two places as its caller has them: a slice of the code would ask more of the caller.
 pub fn key_in(code: &[u8], start: usize, end: usize, j: u32) -> OptArgIndexKey
     requires { end ≤ length (records_of code.now) }
     ensures { result ≡ key_in class_of (slice start end (records_of code.now)) j }
 {
-    let reader = Reader {
+    let clause = Reader {
         table: &classes(),
-        code,
+        code: records::part(code, start.min(end), end),
     };
-    key_by(&reader, start, end, j)
+    key_by(&clause, j)
 }
 
+// That an offset is known is asked of key_of and collect_opt_arg_index_keys, and of who calls them: it is one of many numbers, another in each call.
 // The key at argument j of the clause at a known offset of checked code, read through a view of the clause. A checked
 // clause has a body record, so reading from its start stops before the next clause.
 pub fn key_of(program: &Program, offset: u32, j: u32) -> OptArgIndexKey
     requires { known program.now.starts.now offset ≡ true }
-    ensures { result ≡ key_of class_of (records_of program.now.code.now) program.now.starts.now offset j }
+    ensures { result ≡ keys_by program.now offset j }
 {
     let start = (offset - 1) as usize;
     clause_view::key_at(program.code, start, j)
-}
-
-// Clears the first n numbers of both lists.
-fn clear_keys(heads: &mut [u32], bits: &mut [u64], n: usize)
-    requires { (n ≤ length heads.old) × (n ≤ length bits.old) }
-    ensures { (heads.new ≡ replicate n 0 ++ drop n heads.old) × (bits.new ≡ replicate n 0 ++ drop n bits.old) }
-{
-    heads[..n].fill(0);
-    bits[..n].fill(0);
 }
 
 // All keys of the clause at a known offset of checked code, by a table of classes, in one pass over its records. A body
@@ -264,14 +264,15 @@ fn collect_keys(
     heads: &mut [u32],
     bits: &mut [u64],
 )
-    requires starts_value { check_code (λ op. get_or reader.now.table.now op 0) arity reader.now.code.now starts.now ≡ passed }
+    requires starts_value { check_code (class_by reader.now) arity reader.now.code.now starts.now ≡ passed }
     requires offset_value { known starts.now offset ≡ true }
     requires arity_in_bounds { (arity ≤ length heads.old) × (arity ≤ length bits.old) }
-    ensures heads_after { heads.new ≡ map head_of (keys_of (λ op. get_or reader.now.table.now op 0) (records_of reader.now.code.now) starts.now offset arity) ++ drop arity heads.old }
-    ensures bits_after { bits.new ≡ map bits_of (keys_of (λ op. get_or reader.now.table.now op 0) (records_of reader.now.code.now) starts.now offset arity) ++ drop arity bits.old }
+    ensures heads_after { heads.new ≡ map head_of (keys_of (class_by reader.now) (records_of reader.now.code.now) starts.now offset arity) ++ drop arity heads.old }
+    ensures bits_after { bits.new ≡ map bits_of (keys_of (class_by reader.now) (records_of reader.now.code.now) starts.now offset arity) ++ drop arity bits.old }
 {
     let n = arity as usize;
-    clear_keys(heads, bits, n);
+    heads[..n].fill(0);
+    bits[..n].fill(0);
     let end = records::capacity(reader.code);
     for i in (offset - 1) as usize..end {
         let a = extract_index_arg(reader, i);

@@ -1,5 +1,6 @@
 // Why a call is refused.
 ghost use Rattle.std.specs.Prelude.{◌≡◌};
+ghost use Rattle.indexing_iter.specs.Refusals.{refusal_number};
 
 use std::error::Error;
 use std::fmt;
@@ -21,14 +22,12 @@ pub enum Refusal {
     Index = 12,
 }
 
-impl Refusal {
-    ghost use Rattle.indexing_iter.specs.Refusals.{refusal_number};
+// The number of a refusal, 1 to 12.
+impl From<Refusal> for u32 {
+    ghost from_gives = { λ refusal n. n ≡ refusal_number refusal };
 
-    // The number of a refusal, 1 to 12.
-    pub fn number(self) -> u32
-        ensures { result ≡ refusal_number self }
-    {
-        self as u32
+    fn from(refusal: Refusal) -> u32 {
+        refusal as u32
     }
 }
 

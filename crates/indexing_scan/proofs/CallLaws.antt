@@ -1,14 +1,12 @@
--- A call's records one by one, and what a check of the call that passed says.
+-- What a check of a call that passed says.
 -- Assumes nothing.
-use Prim.Native.Nat.{ℕ, ◌+◌, ◌*◌, ◌<◌}
+use Prim.Native.Nat.{ℕ, ◌*◌}
 use mathlib.Core.Path.{◌≡◌}
 use mathlib.Core.Bool.{Bool, not, ◌&&◌}
-use mathlib.Core.List.{List, ◌∷◌}
-use native.Mathlib.Numerals.{add-one}
+use mathlib.Core.List.{List}
 use native.Mathlib.Omega.{arith}
 use lib.Dec.{eqb}
-use lib.ListN.{length, get_or, drop}
-use lib.Seq.{drop-cons}
+use lib.ListN.{length}
 use borrow.Author.Tests.{eqb-true, not-false}
 use Rattle.records.specs.Records.{records_of}
 use Rattle.records.proofs.Laws.{length-records_of}
@@ -18,13 +16,6 @@ use Rattle.indexing_iter.proofs.SameKeys.{and_left}
 use Rattle.indexing_iter.proofs.KeyLaws.{not-refused}
 use Rattle.indexing.specs.Lists.{every}
 use Rattle.indexing_scan.specs.Calls.{argument_ok, check_call}
-
--- ---- a list from place i on
-
-pub rest-step : {A : Type 0} (xs : List A) (i : ℕ) (d : A) → i < length xs → drop i xs ≡ get_or xs i d ∷ drop (i + 1) xs
-rest-step xs i d h = rw (add-one i) (drop-cons xs i d h)
-
--- ---- a call that passed
 
 -- it has as many records as the arity says
 pub call-records : (arity : ℕ) (call : List ℕ) → check_call arity call ≡ passed → length (records_of call) ≡ arity

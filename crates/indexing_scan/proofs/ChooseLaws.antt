@@ -9,8 +9,7 @@ use native.Mathlib.Nat.{not-suc-le-zero}
 use native.Mathlib.Numerals.{add-one}
 use native.Mathlib.Omega.{arith}
 use lib.Dec.{eqb, leb, ltb}
-use lib.ListN.{length, get_or, take}
-use lib.Seq.{slice, length-slice, get_or-drop, get_or-take}
+use lib.ListN.{length, get_or}
 use borrow.Author.Tests.{eqb-false, ne_eqb, ltb-true, ltb-false, le-leb, lt-leb}
 use Rattle.records.specs.declared.Rec.{Rec}
 use Rattle.records.specs.Records.{zero_rec}
@@ -125,41 +124,32 @@ module _ (q : Key) where
   choose-many rs h =
       sym (equal-kept rs) ∙ pick-many (keep (in_group (group_of q)) rs) (omega (arith, length-kept (in_group (group_of q)) rs))
 
--- the ways out of the choice among the records of l from one place up to another, of which so many are of the key's group
-module _ (q : Key) (l : List Rec) (from to g count : ℕ) (h : from ≤ to) (k : to ≤ length l) (e : g ≡ group_of q)
-    (n : count ≡ count_of (in_group g) (slice from to l)) where
-  many : count ≡ count_of (in_group (group_of q)) (slice from to l)
-  many = n ∙ ap (λ (x : ℕ). count_of (in_group x) (slice from to l)) e
+-- the ways out of the choice among some records, of which so many are of the key's group
+module _ (q : Key) (rs : List Rec) (g count : ℕ) (e : g ≡ group_of q) (n : count ≡ count_of (in_group g) rs) where
+  many : count ≡ count_of (in_group (group_of q)) rs
+  many = n ∙ ap (λ (x : ℕ). count_of (in_group x) rs) e
 
-  in-slice : (i place : ℕ) (r : Rec) → place ≡ from + i → place < to → r ≡ get_or l place zero_rec → r ≡ get_or (slice from to l) i zero_rec
-  in-slice i place r p w f =
-      let v : from + i < to = omega arith in
-      f ∙ ap (λ (x : ℕ). get_or l x zero_rec) p ∙ sym (get_or-drop from (take to l) i zero_rec ∙ get_or-take to l (from + i) zero_rec v)
+  pub ends-none : count ≡ 0 → Nothing ≡ choose_rec q rs
+  ends-none c = choose-none q rs (sym many ∙ c)
 
-  pub ends-none : count ≡ 0 → Nothing ≡ choose_rec q (slice from to l)
-  ends-none c = choose-none q (slice from to l) (sym many ∙ c)
+  module _ (c : count ≡ 1) (place : ℕ) (p : place ≡ up_to (in_group g) rs) where
+    there : place ≡ up_to (in_group (group_of q)) rs
+    there = p ∙ ap (λ (x : ℕ). up_to (in_group x) rs) e
 
-  module _ (c : count ≡ 1) (place : ℕ) (p : place ≡ from + up_to (in_group g) (slice from to l)) where
-    there : place ≡ from + up_to (in_group (group_of q)) (slice from to l)
-    there = p ∙ ap (λ (x : ℕ). from + up_to (in_group x) (slice from to l)) e
+    pub only-within : place < length rs
+    only-within = omega (arith, there, (choose-only q rs (sym many ∙ c)).0)
 
-    pub only-within : place < to
-    only-within = omega (arith, there, (choose-only q (slice from to l) (sym many ∙ c)).0, length-slice from to l k)
+    pub ends-only : (r : Rec) → r ≡ get_or rs place zero_rec → Only r.word ≡ choose_rec q rs
+    ends-only r f = ap (λ (x : Rec). Only x.word) (f ∙ ap (λ (x : ℕ). get_or rs x zero_rec) there) ∙ (choose-only q rs (sym many ∙ c)).1
 
-    pub ends-only : (r : Rec) → r ≡ get_or l place zero_rec → Only r.word ≡ choose_rec q (slice from to l)
-    ends-only r f =
-        ap (λ (x : Rec). Only x.word) (in-slice (up_to (in_group (group_of q)) (slice from to l)) place r there only-within f)
-        ∙ (choose-only q (slice from to l) (sym many ∙ c)).1
+  module _ (n₀ : count ≡ 0 → ⊥) (n₁ : count ≡ 1 → ⊥) (place : ℕ) (p : place ≡ up_to (has_key q) rs) where
+    pub ends-lacking : length rs ≤ place → Nothing ≡ choose_rec q rs
+    ends-lacking w = equal-none q rs (omega (arith, p)) ∙ choose-many q rs (omega (arith, many))
 
-  module _ (n₀ : count ≡ 0 → ⊥) (n₁ : count ≡ 1 → ⊥) (place : ℕ) (p : place ≡ from + up_to (has_key q) (slice from to l)) where
-    pub ends-lacking : to ≤ place → Nothing ≡ choose_rec q (slice from to l)
-    ends-lacking w =
-        equal-none q (slice from to l) (omega (arith, length-slice from to l k)) ∙ choose-many q (slice from to l) (omega (arith, many))
-
-    pub ends-equal : place < to → (r : Rec) → r ≡ get_or l place zero_rec → Equal r.word ≡ choose_rec q (slice from to l)
+    pub ends-equal : place < length rs → (r : Rec) → r ≡ get_or rs place zero_rec → Equal r.word ≡ choose_rec q rs
     ends-equal w r f =
-        ap (λ (x : Rec). Equal x.word) (in-slice (up_to (has_key q) (slice from to l)) place r p w f)
-        ∙ equal-some q (slice from to l) (omega (arith, length-slice from to l k)) ∙ choose-many q (slice from to l) (omega (arith, many))
+        ap (λ (x : Rec). Equal x.word) (f ∙ ap (λ (x : ℕ). get_or rs x zero_rec) p)
+        ∙ equal-some q rs (omega (arith, p)) ∙ choose-many q rs (omega (arith, many))
 
 -- ---- the walk's choice
 

@@ -9,20 +9,20 @@ use Rattle.indexing_iter.specs.declared.group.Group.{Group}
 use Rattle.indexing_iter.specs.declared.group.Group.TheVariants.{Literals, List, Structures}
 use Rattle.indexing_iter.specs.Groups.{group_code}
 
-pub group-codes : (g h : Option Group) → option_eq eq-value.it g h ≡ eqb (group_code g) (group_code h)
-group-codes None None = refl
-group-codes None (Some Literals) = refl
-group-codes None (Some List) = refl
-group-codes None (Some Structures) = refl
-group-codes (Some Literals) None = refl
-group-codes (Some Literals) (Some Literals) = refl
-group-codes (Some Literals) (Some List) = refl
-group-codes (Some Literals) (Some Structures) = refl
-group-codes (Some List) None = refl
-group-codes (Some List) (Some Literals) = refl
-group-codes (Some List) (Some List) = refl
-group-codes (Some List) (Some Structures) = refl
-group-codes (Some Structures) None = refl
-group-codes (Some Structures) (Some Literals) = refl
-group-codes (Some Structures) (Some List) = refl
-group-codes (Some Structures) (Some Structures) = refl
+pub group_codes : (g h : Option Group) → option_eq eq-value.it g h ≡ eqb (group_code g) (group_code h)
+group_codes None None = refl
+group_codes None (Some Literals) = refl
+group_codes None (Some List) = refl
+group_codes None (Some Structures) = refl
+group_codes (Some Literals) None = refl
+group_codes (Some Literals) (Some Literals) = refl
+group_codes (Some Literals) (Some List) = refl
+group_codes (Some Literals) (Some Structures) = refl
+group_codes (Some List) None = refl
+group_codes (Some List) (Some Literals) = refl
+group_codes (Some List) (Some List) = refl
+group_codes (Some List) (Some Structures) = refl
+group_codes (Some Structures) None = refl
+group_codes (Some Structures) (Some Literals) = refl
+group_codes (Some Structures) (Some List) = refl
+group_codes (Some Structures) (Some Structures) = refl

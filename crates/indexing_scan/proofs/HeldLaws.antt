@@ -7,7 +7,7 @@ use Prim.Native.Nat.{ℕ, zero, suc, ◌+◌, ◌≤◌, ◌<◌}
 use native.Mathlib.Omega.{arith}
 use lib.Dec.{eqb}
 use lib.ListN.{length, take, drop, get_or, set, length-append}
-use lib.Seq.{take-suc, take-length, drop-cons, append_snoc, get_or-take, set_at, take_at}
+use lib.Seq.{take-suc, drop-cons, append_snoc, get_or-take, set_at, take_at}
 use native.Mathlib.Numerals.{add-one}
 use borrow.Author.Tests.{eqb-true, ne_eqb}
 use Rattle.std.proofs.lemmas.List.{take_all}
@@ -21,10 +21,9 @@ use Rattle.indexing.proofs.BridgeLists.{keep_append}
 use Rattle.indexing.proofs.Lists.{every-keep}
 use Rattle.indexing.proofs.Tests.{and-true}
 use Rattle.indexing_scan.specs.Walk.{stop, goto, unstored, enter}
-use Rattle.indexing_scan.specs.Unstored.{step_number, move_of, count_of, held_by, Held, alike, like_to, all_same, any_open, entered_by, empty_by}
+use Rattle.indexing_scan.specs.Unstored.{step_number, move_of, Held, alike, like_to, all_same, any_open, entered_by, empty_by}
 use Rattle.indexing_scan.specs.declared.unstored.Step.{Step}
 use Rattle.indexing_scan.specs.declared.unstored.Step.TheVariants.{Only}
-use Rattle.indexing_scan.specs.declared.unstored.Narrowed.{Narrowed}
 use Rattle.indexing_scan.specs.declared.unstored.Narrowed.TheVariants.{Failed, Single, Bucket}
 
 -- ---- a list kept in place: the elements before place i that pass the test stand at the front, k of them
@@ -34,9 +33,6 @@ module _ (t : ℕ → Bool) (l₀ : List ℕ) where
     pub count : k ≡ length (keep t (take i l₀))
     pub few : k ≤ i
     pub list : l ≡ keep t (take i l₀) ++ drop k l₀
-
-  pub kept-start : Kept 0 0 l₀
-  kept-start = record { count = refl; few = omega arith; list = refl }
 
   -- the elements before place i + 1
   keep-next : (i : ℕ) → i < length l₀ → keep t (take (i + 1) l₀) ≡ keep t (take i l₀) ++ keep t (get_or l₀ i 0 ∷ [])
@@ -75,11 +71,6 @@ module _ (t : ℕ → Bool) (l₀ : List ℕ) where
       (s.count ∙ ap length n, s.list ∙ ap (λ (x : List ℕ). x ++ drop k l₀) n)
 
 -- ---- known offsets, and what holds of some or of every clause
-
-pub known_at : (p : ℕ → Bool) (l : List ℕ) (i : ℕ) → every p l ≡ true → i < length l → p (get_or l i 0) ≡ true
-known_at p [] i e h = absurd (omega arith)
-known_at p (x ∷ l) zero e h = (and-true (p x) (every p l) e).0
-known_at p (x ∷ l) (suc i) e h = known_at p l i (and-true (p x) (every p l) e).1 (omega arith)
 
 pub known_in : (p : ℕ → Bool) (l : List ℕ) (x k : ℕ) → every p l ≡ true → k < length l → x ≡ get_or l k x → p x ≡ true
 known_in p [] x k e h f = absurd (omega arith)
@@ -155,16 +146,6 @@ empty-move dynamic q list = go (dynamic && eqb (group_of q) 2)
     go false = refl
 
 -- ---- what stands in the list
-
-pub held_same : (starts list : List ℕ) (r : Narrowed) → count_of (length list) r ≡ length list → held_by r list list ≡ list
-    → every (known starts) list ≡ true → Held starts list list r
-held_same starts list r e f g =
-    let n : take (count_of (length list) r) list ≡ list = ap (λ (n : ℕ). take n list) e ∙ take-length list in
-    record {
-      front = n ∙ sym f;
-      within = omega arith;
-      offsets = ap (every (known starts)) n ∙ g;
-    }
 
 pub held_none : (starts old new : List ℕ) → Held starts old new Failed
 held_none starts old new = record { front = refl; within = omega arith; offsets = refl }

@@ -3,6 +3,7 @@ pub mod Same
 pub mod Walks
 pub mod UnstoredWalk
 pub mod Again
+pub mod Ranges
 pub mod Rising
 pub mod Steps
 pub mod CallLaws

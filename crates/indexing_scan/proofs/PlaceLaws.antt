@@ -24,8 +24,7 @@ use Rattle.indexing_iter.specs.declared.OptArgIndexKey.{OptArgIndexKey as Key}
 use Rattle.indexing_scan.proofs.ChooseLaws.{choose-entries}
 use Rattle.indexing_scan.proofs.Turns.{line-zero}
 use Rattle.indexing_scan.specs.Walk.{choose}
-use Rattle.indexing_scan.specs.declared.stored.Run.TheVariants.{Items, Tables, Offsets}
-use Rattle.indexing_scan.specs.Places.{is_item, is_table, leaves, up_to, through_line, behind_table, behind_line, first_offset, offsets_at, head_rec, At}
+use Rattle.indexing_scan.specs.Places.{is_item, is_table, is_tables, is_offset, leaves, up_to, through_line, behind_table, behind_line, first_offset, offsets_at, head_rec, At}
 use Rattle.indexing_scan.specs.Places.{choose_rec, choice_of}
 
 -- ---- runs
@@ -74,7 +73,7 @@ choices-kinds : (Ψ : ℕ → Type 0) → Ψ 6 → (cs : List Choice) → All (�
 choices-kinds Ψ e cs = all_map (λ r. Ψ r.kind) choice_rec (λ x. e) cs
 
 -- where the three runs end
-items-end : (ts : List Table) (cs : List Choice) (m n : ℕ) (xs : Index) → up_to (leaves Items) (tables_recs ts ++ (map choice_rec cs ++ records m n xs)) ≡ 0
+items-end : (ts : List Table) (cs : List Choice) (m n : ℕ) (xs : Index) → up_to (leaves is_item) (tables_recs ts ++ (map choice_rec cs ++ records m n xs)) ≡ 0
 unfolding up_to leaves
 items-end (switch a es ∷ ts) cs m n xs = refl
 items-end (on_demand a ∷ ts) cs m n xs = refl
@@ -83,13 +82,13 @@ items-end [] (c ∷ cs) m n xs = refl
 items-end [] [] m n [] = refl
 items-end [] [] m n (x ∷ xs) = refl
 
-tables_end : (cs : List Choice) (m n : ℕ) (xs : Index) → up_to (leaves Tables) (map choice_rec cs ++ records m n xs) ≡ 0
+tables_end : (cs : List Choice) (m n : ℕ) (xs : Index) → up_to (leaves is_tables) (map choice_rec cs ++ records m n xs) ≡ 0
 unfolding up_to leaves
 tables_end (c ∷ cs) m n xs = refl
 tables_end [] m n [] = refl
 tables_end [] m n (x ∷ xs) = refl
 
-offsets-end : (m n : ℕ) (xs : Index) → up_to (leaves Offsets) (records m n xs) ≡ 0
+offsets-end : (m n : ℕ) (xs : Index) → up_to (leaves is_offset) (records m n xs) ≡ 0
 unfolding up_to leaves
 offsets-end m n [] = refl
 offsets-end m n (x ∷ xs) = refl
@@ -177,11 +176,11 @@ module _ {m : ℕ} {idx : Index} {rs : List Rec} {l : ℕ} where
     pub at-record : get_or rs p zero_rec ≡ head_rec t
     at-record = front-is rs p ∙ ap (λ (x : List Rec). get_or x 0 zero_rec) (at.rest ∙ starts)
 
-    items-run : up_to (leaves Items) (drop (p + 1) rs) ≡ length (item_recs t)
+    items-run : up_to (leaves is_item) (drop (p + 1) rs) ≡ length (item_recs t)
     unfolding leaves
     items-run =
-        ap (up_to (leaves Items)) (sym (drop-drop 1 p rs) ∙ ap (drop 1) (at.rest ∙ starts))
-        ∙ upto-pass (leaves Items) (item_recs t) (left m idx l ts) (items-kinds (λ k. not (is_item k) ≡ false) refl refl t)
+        ap (up_to (leaves is_item)) (sym (drop-drop 1 p rs) ∙ ap (drop 1) (at.rest ∙ starts))
+        ∙ upto-pass (leaves is_item) (item_recs t) (left m idx l ts) (items-kinds (λ k. not (is_item k) ≡ false) refl refl t)
         ∙ ap (λ (k : ℕ). length (item_recs t) + k) (items-end ts (line_at idx l).choices m (suc l) (drop (suc l) idx))
         ∙ add-zero (length (item_recs t))
 
@@ -208,8 +207,8 @@ module _ {m : ℕ} {idx : Index} {rs : List Rec} {l : ℕ} where
     tables-run : first_offset rs p ≡ p + length (tables_recs ts)
     unfolding first_offset leaves
     tables-run = ap (λ (k : ℕ). p + k)
-        (ap (up_to (leaves Tables)) at.rest
-        ∙ upto-pass (leaves Tables) (tables_recs ts) (left m idx l []) (tables-kinds (λ k. not (is_table k || is_item k) ≡ false) refl refl refl refl refl ts)
+        (ap (up_to (leaves is_tables)) at.rest
+        ∙ upto-pass (leaves is_tables) (tables_recs ts) (left m idx l []) (tables-kinds (λ k. not (is_table k || is_item k) ≡ false) refl refl refl refl refl ts)
         ∙ ap (λ (k : ℕ). length (tables_recs ts) + k) (tables_end (line_at idx l).choices m (suc l) (drop (suc l) idx))
         ∙ add-zero (length (tables_recs ts)))
 
@@ -253,8 +252,8 @@ module _ {m : ℕ} {idx : Index} {rs : List Rec} {l : ℕ} where
     offsets_run : offsets_at rs q ≡ length (line_at idx l).choices
     unfolding offsets_at leaves
     offsets_run =
-        ap (up_to (leaves Offsets)) at.rest
-        ∙ upto-pass (leaves Offsets) (map choice_rec (line_at idx l).choices) (records m (suc l) (drop (suc l) idx))
+        ap (up_to (leaves is_offset)) at.rest
+        ∙ upto-pass (leaves is_offset) (map choice_rec (line_at idx l).choices) (records m (suc l) (drop (suc l) idx))
         (choices-kinds (λ k. not (eqb k 6) ≡ false) refl (line_at idx l).choices)
         ∙ ap (λ (k : ℕ). length (map choice_rec (line_at idx l).choices) + k) (offsets-end m (suc l) (drop (suc l) idx))
         ∙ add-zero (length (map choice_rec (line_at idx l).choices)) ∙ length-map (line_at idx l).choices choice_rec

@@ -1,57 +1,44 @@
 -- The first clause that agrees with a call is a witness.
 -- Assumes nothing.
-use Prim.Native.Nat.{ℕ, suc, ◌+◌, ◌-◌, ◌≤◌, ◌<◌}
-use mathlib.Core.Path.{◌≡◌, refl, ap}
-use mathlib.Core.Bool.{Bool, true, ◌&&◌}
+use Rattle.std.specs.List.{list_all, find, range_with_len}
+use Rattle.std.proofs.lemmas.List.{get_or_default}
+use Prim.Native.Nat.{ℕ, zero, suc, ◌+◌, ◌≤◌, ◌<◌}
+use mathlib.Core.Path.{◌≡◌, refl, sym, ap, ◌∙◌}
+use mathlib.Core.Bool.{Bool, true, false, cond, ◌&&◌}
 use mathlib.Core.List.{List, [], ◌∷◌}
 use native.Mathlib.Numerals.{add-one}
 use native.Mathlib.Omega.{arith}
-use lib.ListN.{length, get_or, drop, drop_of_length-le}
+use lib.ListN.{length, get_or, length-map, get_or-map}
 use borrow.Author.Tests.{eq-eqb}
 use Rattle.indexing_iter.specs.declared.Settings.{Settings}
 use Rattle.indexing_iter.specs.declared.refusal.Refusal.{Refusal}
 use Rattle.indexing_iter.specs.Refusals.{passed}
-use Rattle.std.specs.Prelude.{Option, None, Ok, Err}
-use Rattle.indexing_iter.specs.Clauses.{offsets_of, known}
+use Rattle.std.specs.Prelude.{Option, Some, Ok, Err}
+use Rattle.indexing_iter.specs.Clauses.{known, offsets_of}
 use Rattle.indexing_iter.specs.Checks.{check_code}
 use Rattle.indexing_iter.proofs.CheckLaws.{start-known, code-offset, code-size}
-use Rattle.indexing.specs.Lists.{add, keep}
 use Rattle.indexing.specs.Build.{Program}
+use Rattle.indexing.specs.Lists.{keep, add}
 use Rattle.indexing_scan.specs.Agree.{Call, agree_at, agree_from}
 use Rattle.indexing_scan.specs.Calls.{check_call, witness_checks, agreeing}
 use Rattle.indexing_scan.specs.Witness.{IsWitness, Witnesses, first_of}
-use Rattle.indexing_scan.proofs.CallLaws.{rest-step}
 
 -- ---- a clause, argument by argument
 
-module _ (P : Program) (Q : Call) (o : ℕ) where
-  -- the clause agrees at the arguments from a on
-  pub agrees_at : ℕ → Bool
-  agrees_at a = agree_from P Q (P.arity + 1 - a) a o
+pub all-agree : (P : Program) (Q : Call) (o : ℕ) (n a : ℕ) → list_all (λ b. agree_at (Q b) (P.key_of o b)) (range_with_len a n) ≡ agree_from P Q n a o
+all-agree P Q o zero a = refl
+all-agree P Q o (suc n) a = rw (← add-one a) (ap (λ (b : Bool). agree_at (Q a) (P.key_of o a) && b) (all-agree P Q o n (a + 1)))
 
-  pub agrees_first : agrees_at 1 ≡ agree_from P Q P.arity 1 o
-  unfolding agrees_at
-  agrees_first = let n : P.arity + 1 - 1 ≡ P.arity = omega arith in ap (λ (x : ℕ). agree_from P Q x 1 o) n
+-- ---- the first of the clauses
 
-  pub agrees-step : (a : ℕ) → a ≤ P.arity → agrees_at a ≡ agree_at (Q a) (P.key_of o a) && agrees_at (a + 1)
-  unfolding agrees_at
-  agrees-step a h =
-      let n : P.arity + 1 - a ≡ suc (P.arity + 1 - (a + 1)) = omega arith in
-      rw (add-one a) (ap (λ (x : ℕ). agree_from P Q x a o) (rw (add-one a) at n))
-
-  pub agrees-done : (a : ℕ) → P.arity < a → agrees_at a ≡ true
-  unfolding agrees_at
-  agrees-done a h = let n : P.arity + 1 - a ≡ 0 = omega arith in ap (λ (x : ℕ). agree_from P Q x a o) n
-
--- ---- clause by clause
-
--- the first of the clauses from place i on that passes the test
-pub first_step : (t : ℕ → Bool) (starts : List ℕ) (i : ℕ) → i < length starts
-    → first_of (keep t (offsets_of (drop i starts))) ≡ first_of (add (t (get_or starts i 0 + 1)) (get_or starts i 0 + 1) (keep t (offsets_of (drop (i + 1) starts))))
-first_step t starts i h = rw (add-one (get_or starts i 0)) (ap (λ (l : List ℕ). first_of (keep t (offsets_of l))) (rest-step starts i 0 h))
-
-pub first_done : (t : ℕ → Bool) (starts : List ℕ) (i : ℕ) → length starts ≤ i → first_of (keep t (offsets_of (drop i starts))) ≡ None
-first_done t starts i h = ap (λ (l : List ℕ). first_of (keep t (offsets_of l))) (drop_of_length-le starts h)
+-- the first that passes a test is the first of those that do
+pub find-first : (t : ℕ → Bool) (os : List ℕ) → find t os ≡ first_of (keep t os)
+find-first t [] = refl
+find-first t (o ∷ os) = go (t o) (find-first t os)
+  where
+    go : (b : Bool) → find t os ≡ first_of (keep t os) → cond b (Some o) (find t os) ≡ first_of (add b o (keep t os))
+    go true e = refl
+    go false e = e
 
 pub first-witness : (os : List ℕ) → IsWitness os (first_of os)
 first-witness [] = refl
@@ -70,6 +57,18 @@ clause-offset cls arity code starts i e h =
     let k : known starts (suc (get_or starts i 0)) ≡ true = start-known starts i h in
     let r = code-offset cls arity code starts (suc (get_or starts i 0)) e k in
     (rw (add-one (get_or starts i 0)) k, omega (arith, r.1, (code-size cls arity code starts e).1))
+
+module _ (cls : ℕ → ℕ) (arity : ℕ) (code starts : List ℕ) (passes : check_code cls arity code starts ≡ passed) (k x : ℕ) where
+  -- a start by its place
+  pub start-at : k < length starts → x ≡ get_or starts k x → x + 1 ≤ 32768
+  start-at h e = omega (arith, e, get_or_default starts k x 0 h, (clause-offset cls arity code starts k passes h).1)
+
+  -- an offset by its place
+  pub offset-at : k < length (offsets_of starts) → x ≡ get_or (offsets_of starts) k x → known starts x ≡ true
+  offset-at h e =
+      let l : k < length starts = omega (arith, h, length-map starts suc) in
+      let q : x ≡ get_or starts k 0 + 1 = e ∙ get_or_default (offsets_of starts) k x 1 h ∙ get_or-map suc starts k 0 ∙ sym (add-one (get_or starts k 0)) in
+      rw q (clause-offset cls arity code starts k passes l).0
 
 -- ---- the checks one after the other
 

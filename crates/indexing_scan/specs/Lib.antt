@@ -7,3 +7,4 @@ pub mod Unstored
 pub mod Witness
 pub mod Places
 pub mod Tests
+pub mod Readings

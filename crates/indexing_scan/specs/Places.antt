@@ -2,10 +2,10 @@
 -- Inner definitions: the functions that find their way in an index are stated with them; no public promise cites them.
 -- proofs/PlaceLaws and proofs/ChooseLaws say what they are of the lines of section 3 and of the walk of section 5.
 -- Assumes nothing.
-use Rattle.std.specs.Prelude.{◌≡◌, Bool, cond, not, ◌||◌, List, [], ◌∷◌, ◌++◌, map, ℕ, zero, suc, ◌+◌, ◌≤◌, ◌<◌, eqb, length, drop}
+use Rattle.std.specs.Prelude.{◌≡◌, Bool, cond, not, ◌||◌, List, [], ◌∷◌, ◌++◌, map, ℕ, zero, suc, ◌+◌, ◌≤◌, ◌<◌, eqb, length, take, drop}
 use Rattle.std.proofs.Math.Option.{Option, none, some}
 use Rattle.records.specs.declared.Rec.{Rec}
-use Rattle.records.specs.Records.{rec_of}
+use Rattle.records.specs.Records.{rec_of, records_of}
 use Rattle.indexing_iter.specs.declared.OptArgIndexKey.{OptArgIndexKey as Key}
 use Rattle.indexing_iter.specs.Keys.{group_of, same}
 use Rattle.indexing.specs.Lists.{keep}
@@ -13,9 +13,8 @@ use Rattle.indexing.specs.Lines.{Ptr, Table, switch, on_demand, dead, Index, lin
 use Rattle.indexing.specs.Reading.{key_from, pointer_from}
 use Rattle.well_formed.specs.Pass.{group_by_sort}
 use Rattle.indexing_scan.specs.Walk.{Chosen as WalkChosen}
-use Rattle.indexing_scan.specs.declared.stored.Run.{Run}
-use Rattle.indexing_scan.specs.declared.stored.Run.TheVariants.{Items, Tables, Offsets}
 use Rattle.indexing_scan.specs.declared.stored.Chosen.{Chosen}
+use Rattle.indexing_scan.specs.declared.stored_index.Stored.{Stored}
 use Rattle.indexing_scan.specs.declared.stored.Chosen.TheVariants.{Nothing, Only, Equal}
 
 -- ---- runs of records by their kinds
@@ -28,15 +27,20 @@ is_item k = eqb k 5 || eqb k 7
 abbrev pub is_table : ℕ → Bool
 is_table k = eqb k 2 || (eqb k 3 || eqb k 4)
 
--- section 3: the kinds of a run, which are the items of one table, tables with their items, or offsets
-abbrev pub in_run : Run → ℕ → Bool
-in_run Items k = is_item k
-in_run Tables k = is_table k || is_item k
-in_run Offsets k = eqb k 6
+-- section 3: the kinds of a run are those of the items of one table, of tables with their items, or of offsets
+abbrev pub is_tables : ℕ → Bool
+is_tables k = is_table k || is_item k
+
+abbrev pub is_offset : ℕ → Bool
+is_offset k = eqb k 6
+
+-- a record of a run, by the kinds of the run
+abbrev pub in_run : (ℕ → Bool) → Rec → Bool
+in_run t r = t r.kind
 
 -- a record with which a run has ended
-unfoldable pub leaves : Run → Rec → Bool
-leaves u r = not (in_run u r.kind)
+unfoldable pub leaves : (ℕ → Bool) → Rec → Bool
+leaves t r = not (in_run t r)
 
 -- how many records stand before the first that passes the test
 unfoldable pub up_to : (Rec → Bool) → List Rec → ℕ
@@ -56,9 +60,13 @@ through_line (suc d) (r ∷ rs) = cond (eqb r.kind 1) (through_line d rs + 1) (t
 
 -- ---- places
 
+-- the records of an index at the front of a buffer
+abbrev pub records_by : Stored → List Rec
+records_by stored = take stored.count (records_of stored.index.now)
+
 -- the place behind the table whose record is at p
 unfoldable pub behind_table : List Rec → ℕ → ℕ
-behind_table rs p = p + 1 + up_to (leaves Items) (drop (p + 1) rs)
+behind_table rs p = p + 1 + up_to (leaves is_item) (drop (p + 1) rs)
 
 -- the place behind the d-th line record from p on
 unfoldable pub behind_line : List Rec → ℕ → ℕ → ℕ
@@ -66,11 +74,11 @@ behind_line rs p d = p + through_line d (drop p rs)
 
 -- the place behind all tables from p on
 unfoldable pub first_offset : List Rec → ℕ → ℕ
-first_offset rs p = p + up_to (leaves Tables) (drop p rs)
+first_offset rs p = p + up_to (leaves is_tables) (drop p rs)
 
 -- the number of offsets from q on
 unfoldable pub offsets_at : List Rec → ℕ → ℕ
-offsets_at rs q = up_to (leaves Offsets) (drop q rs)
+offsets_at rs q = up_to (leaves is_offset) (drop q rs)
 
 -- section 3: a table's own record
 abbrev pub head_rec : Table → Rec

@@ -1,4 +1,5 @@
 // A call: numbers 10 and 11 of document 01's table, and the key of each argument.
+// A u32 becomes a usize by `as`, since there is no From for it: each is proved to fit.
 ghost use Rattle.std.specs.Prelude.{◌≡◌, ◌≤◌, length};
 ghost use Rattle.records.specs.Records.{records_of};
 ghost use Rattle.indexing.specs.Lists.{every};
@@ -9,7 +10,8 @@ use indexing_iter::OptArgIndexKey;
 use indexing_iter::refusal::Refusal;
 use records::Rec;
 
-// Whether the record of an argument is right: all zero if unbound, else the sort's own fields and no others.
+// Whether the record of an argument is right: all zero if unbound, else the sort's own fields and no others. The sort is
+// a byte of a record that is handed in.
 #[tactic(auto, unfolding(crate::specs::Calls::argument_ok))]
 fn argument_ok(r: Rec) -> bool
     ensures { result ≡ argument_ok r }
@@ -29,12 +31,7 @@ fn argument_ok(r: Rec) -> bool
 fn arguments_ok(call: &[u8]) -> bool
     ensures { result ≡ every argument_ok (records_of call.now) }
 {
-    for i in 0..records::capacity(call) {
-        if !argument_ok(records::get(call, i)) {
-            return false;
-        }
-    }
-    true
+    (0..records::capacity(call)).all(|i| argument_ok(records::get(call, i)))
 }
 
 // 10: call not arity records, or a record that is not right.
@@ -58,7 +55,7 @@ pub fn check_out(starts: &[u32], out: &[u32]) -> Result<(), Refusal>
     Ok(())
 }
 
-// A key by its sort, arity and bits.
+// A key by its sort, arity and bits. The sort is a byte of a record that is handed in: any number has a key.
 pub fn key_from(sub: u8, half: u16, long: u64) -> OptArgIndexKey
     ensures { result ≡ key_from sub half long }
 {
@@ -71,6 +68,7 @@ pub fn key_from(sub: u8, half: u16, long: u64) -> OptArgIndexKey
 }
 
 // The key of argument a of a call, none where it is unbound.
+#[tactic(auto, unfolding(crate::specs::Calls::call_of))]
 pub fn call_key(call: &[u8], a: u32) -> OptArgIndexKey
     requires { (1 ≤ a) × (a ≤ length (records_of call.now)) }
     ensures { result ≡ call_of call.now a }

@@ -1,14 +1,16 @@
 // The walk through lines that are not stored: a line is a scratch list of clauses, narrowed argument by argument.
-ghost use Rattle.std.specs.Prelude.{◌≡◌, Bool, true, false, [], ◌++◌, ◌+◌, ◌-◌, ◌≤◌, length, take, drop};
-ghost use Rattle.records.specs.Records.{records_of};
-ghost use Rattle.indexing_iter.specs.Classes.{class_of};
+// Program, clauses, argument and key are parameters and no struct: each call narrows other clauses, at another argument.
+// AreClauses is asked of each list of clauses, which is lent to be narrowed: a struct that holds it would make each contract speak of its field's states.
+// The bounds of an argument differ, at most the arity or one above it, and so they stand in each contract.
+// is_open q ≡ false is asked of two functions: the caller has looked whether the call's key is bound. narrow takes both keys, so it is no type's field.
+ghost use Rattle.std.specs.Prelude.{◌≡◌, Bool, true, false, [], ◌++◌, ◌+◌, ◌≤◌, length, take, drop};
 ghost use Rattle.indexing_iter.specs.declared.OptArgIndexKey.{OptArgIndexKey};
 ghost use Rattle.indexing_iter.specs.Keys.{is_open};
-ghost use Rattle.indexing_iter.specs.Clauses.{key_of, known};
-ghost use Rattle.indexing.specs.Lists.{keep, every};
-ghost use Rattle.indexing.specs.Build.{program_of, open_at, virtual};
-ghost use Rattle.indexing_scan.specs.Calls.{call_of};
-ghost use Rattle.indexing_scan.specs.ByArgument.{move, answer_from};
+ghost use Rattle.indexing_iter.specs.Readings.{keys_by};
+ghost use Rattle.indexing.specs.Lists.{keep};
+ghost use Rattle.indexing.specs.Build.{open_at, virtual};
+ghost use Rattle.indexing_scan.specs.ByArgument.{move};
+ghost use Rattle.indexing_scan.specs.Readings.{predicate_of, AreClauses, answer_of};
 ghost use Rattle.indexing_scan.specs.Walk.{demand, follow_new, choose, unstored};
 ghost use Rattle.indexing_scan.specs.Unstored.{move_of, Held, any_open, alike, all_same, entered_by, empty_by, finished_by};
 ghost use Rattle.indexing_scan.specs.Tests.{Computes};
@@ -21,6 +23,7 @@ use indexing_iter::program::Program;
 
 // What was done at a table from which the walk went on: the argument is unbound, the table is dead, the only entry of
 // the group is followed, or the equal key among several.
+// Which step it was is in the definitions, and goes to the path of a later request: no caller reads it.
 #[derive(Clone, Copy, Debug, PartialEq, Eq)]
 pub enum Step {
     Unbound = 1,
@@ -30,8 +33,8 @@ pub enum Step {
 }
 
 // What is done at an argument, with what was done at its table. Single has the offset of an external pointer, Bucket
-// the number of a line's clauses.
-#[derive(Clone, Copy)]
+// the number of a line's clauses. Three of its cases have a step: an Option or a Result would have an enum inside.
+#[derive(Clone, Copy, Debug, PartialEq, Eq)]
 pub enum Narrowed {
     NoTable,
     Passed(Step),
@@ -50,16 +53,16 @@ pub struct Finished {
 
 // Whether some clause has no key at argument a.
 fn any_open(program: &Program, clauses: &[u32], a: u32) -> bool
-    requires { every (known program.now.starts.now) clauses.now ≡ true }
-    ensures { result ≡ any_open (key_of class_of (records_of program.now.code.now) program.now.starts.now) a clauses.now }
+    requires { AreClauses program.now clauses.now }
+    ensures { result ≡ any_open (keys_by program.now) a clauses.now }
 {
     clauses.iter().any(|o| indexing_iter::is_open(indexing_iter::key_of(program, *o, a)))
 }
 
 // Whether every clause has the key k at argument a.
 fn all_same(program: &Program, clauses: &[u32], a: u32, k: OptArgIndexKey) -> bool
-    requires { every (known program.now.starts.now) clauses.now ≡ true }
-    ensures { result ≡ all_same (key_of class_of (records_of program.now.code.now) program.now.starts.now) a k clauses.now }
+    requires { AreClauses program.now clauses.now }
+    ensures { result ≡ all_same (keys_by program.now) a k clauses.now }
 {
     clauses.iter().all(|o| indexing_iter::same_key(indexing_iter::key_of(program, *o, a), k))
 }
@@ -72,7 +75,7 @@ fn same_group(q: OptArgIndexKey, k: OptArgIndexKey) -> bool
 }
 
 // Moves the clauses whose key at argument a passes a test to the front of the list, and gives their number. What stands
-// behind them is as it was.
+// behind them is as it was. The loop writes in the slice that it reads, so it goes by places.
 fn keep_if<F: Fn(OptArgIndexKey) -> bool>(
     program: &Program,
     clauses: &mut [u32],
@@ -80,10 +83,10 @@ fn keep_if<F: Fn(OptArgIndexKey) -> bool>(
     test: F,
 ) -> usize
     requires calls { F.IsAlwaysCallable test }
-    requires clauses_value { every (known program.now.starts.now) clauses.old ≡ true }
+    requires clauses_value { AreClauses program.now clauses.old }
     ensures few { result ≤ length clauses.old }
     ensures kept { (t : OptArgIndexKey → Bool) → Computes (F.post test) t
-        → let kept = keep (λ o. t (key_of class_of (records_of program.now.code.now) program.now.starts.now o a)) clauses.old in
+        → let kept = keep (λ o. t (keys_by program.now o a)) clauses.old in
         (result ≡ length kept) × (clauses.new ≡ kept ++ drop result clauses.old) }
 {
     let mut k = 0;
@@ -110,6 +113,7 @@ fn entered(dynamic: bool, how: Step, k: usize, o: u32) -> Narrowed
 }
 
 // No clause of the group of q: Fail, but the dynamic list is a line even if empty.
+#[tactic(auto, using(crate::proofs::GroupCodes::group_codes), unfolding(crate::specs::Unstored::empty_by))]
 fn no_entry(dynamic: bool, q: OptArgIndexKey) -> Narrowed
     ensures { result ≡ empty_by dynamic q }
 {
@@ -122,9 +126,9 @@ fn no_entry(dynamic: bool, q: OptArgIndexKey) -> Narrowed
 
 // The switch on argument a of these clauses, followed with the bound key q.
 fn follow_new(program: &Program, clauses: &mut [u32], a: u32, q: OptArgIndexKey) -> Narrowed
-    requires clauses_value { every (known program.now.starts.now) clauses.old ≡ true }
+    requires clauses_value { AreClauses program.now clauses.old }
     requires q_value { is_open q ≡ false }
-    ensures clauses_after { let P = program_of class_of program.now.settings (records_of program.now.code.now) program.now.starts.now in
+    ensures clauses_after { let P = predicate_of program.now in
         move_of result clauses.new ≡ follow_new P (choose P q (virtual P a clauses.old)) }
     ensures held { Held program.now.starts.now clauses.old clauses.new result }
 {
@@ -153,9 +157,9 @@ fn follow_new(program: &Program, clauses: &mut [u32], a: u32, q: OptArgIndexKey)
 // An on-demand table for argument a in a line of these clauses, looked at with the bound key q: dead where some clause
 // is open, else a switch. A bucket's clauses are moved to the front of the list.
 pub fn demand_at(program: &Program, clauses: &mut [u32], a: u32, q: OptArgIndexKey) -> Narrowed
-    requires clauses_value { every (known program.now.starts.now) clauses.old ≡ true }
+    requires clauses_value { AreClauses program.now clauses.old }
     requires q_value { is_open q ≡ false }
-    ensures clauses_after { let P = program_of class_of program.now.settings (records_of program.now.code.now) program.now.starts.now in
+    ensures clauses_after { let P = predicate_of program.now in
         move_of result clauses.new ≡ demand P a q clauses.old (open_at P a clauses.old) }
     ensures held { Held program.now.starts.now clauses.old clauses.new result }
 {
@@ -167,9 +171,9 @@ pub fn demand_at(program: &Program, clauses: &mut [u32], a: u32, q: OptArgIndexK
 
 // What is done at argument a in a line of these clauses that is not stored, with the key q or unbound.
 pub fn narrow(program: &Program, clauses: &mut [u32], a: u32, q: OptArgIndexKey) -> Narrowed
-    requires clauses_value { every (known program.now.starts.now) clauses.old ≡ true }
+    requires clauses_value { AreClauses program.now clauses.old }
     requires le_a { (1 ≤ a) × (a ≤ program.now.settings.arity) }
-    ensures clauses_after { let P = program_of class_of program.now.settings (records_of program.now.code.now) program.now.starts.now in
+    ensures clauses_after { let P = predicate_of program.now in
         move_of result clauses.new ≡ move P [] (unstored clauses.old) a q }
     ensures held { Held program.now.starts.now clauses.old clauses.new result }
 {
@@ -189,16 +193,24 @@ pub fn narrow(program: &Program, clauses: &mut [u32], a: u32, q: OptArgIndexKey)
     follow_new(program, clauses, a, q)
 }
 
+// An answer by its three fields.
+fn answered(case: Case, count: usize, tables: u32) -> Finished
+    ensures { result ≡ record { case = case; count = count; tables = tables } }
+{
+    Finished {
+        case,
+        count,
+        tables,
+    }
+}
+
 // The answer from argument a on, in a line of these clauses that is not stored. The clauses of the answer are moved to
 // the front of the list.
 pub fn finish(query: &Query, clauses: &mut [u32], a: u32) -> Finished
-    requires clauses_value { every (known query.now.program.starts.now) clauses.old ≡ true }
+    requires clauses_value { AreClauses query.now.program clauses.old }
     requires le_a { (1 ≤ a) × (a ≤ query.now.program.settings.arity + 1) }
-    ensures result_value { let P = program_of class_of query.now.program.settings (records_of query.now.program.code.now) query.now.program.starts.now in
-        result ≡ finished_by (answer_from P (call_of query.now.call.now) (query.now.program.settings.arity + 1 - a) a [] (unstored clauses.old)) }
-    ensures clauses_after { let P = program_of class_of query.now.program.settings (records_of query.now.program.code.now) query.now.program.starts.now in
-        let A = answer_from P (call_of query.now.call.now) (query.now.program.settings.arity + 1 - a) a [] (unstored clauses.old) in
-        take result.count clauses.new ≡ A.offsets }
+    ensures result_value { result ≡ finished_by (answer_of query.now a clauses.old) }
+    ensures clauses_after { take result.count clauses.new ≡ (answer_of query.now a clauses.old).offsets }
     ensures count_le_len { result.count ≤ length clauses.old }
 {
     let mut count = clauses.len();
@@ -210,20 +222,8 @@ pub fn finish(query: &Query, clauses: &mut [u32], a: u32) -> Finished
             Narrowed::Passed(_) => {
                 tables += 1;
             }
-            Narrowed::Failed => {
-                return Finished {
-                    case: Case::Fail,
-                    count: 0,
-                    tables: tables + 1,
-                };
-            }
-            Narrowed::Single(_, _) => {
-                return Finished {
-                    case: Case::External,
-                    count: 1,
-                    tables: tables + 1,
-                };
-            }
+            Narrowed::Failed => return answered(Case::Fail, 0, tables + 1),
+            Narrowed::Single(_, _) => return answered(Case::External, 1, tables + 1),
             Narrowed::Bucket(_, k) => {
                 count = k;
                 tables += 1;

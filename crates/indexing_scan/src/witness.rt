@@ -1,11 +1,10 @@
 // The witness: the offset of some clause that agrees with a call, from code and call alone.
 ghost use Rattle.std.specs.Prelude.{◌≡◌, true};
-ghost use Rattle.records.specs.Records.{records_of};
 ghost use Rattle.indexing_iter.specs.Classes.{class_of};
 ghost use Rattle.indexing_iter.specs.Clauses.{known};
-ghost use Rattle.indexing.specs.Build.{program_of};
 ghost use Rattle.indexing_scan.specs.Agree.{agree_at, agree};
-ghost use Rattle.indexing_scan.specs.Calls.{call_of, witness_checks, agreeing};
+ghost use Rattle.indexing_scan.specs.Calls.{witness_checks, agreeing};
+ghost use Rattle.indexing_scan.specs.Readings.{predicate_of, asked_by};
 ghost use Rattle.indexing_scan.specs.Witness.{Witnesses, first_of};
 
 use crate::calls;
@@ -24,28 +23,24 @@ fn agree_at(q: OptArgIndexKey, k: OptArgIndexKey) -> bool
 // Whether the clause at a known offset agrees with the call at every argument.
 fn agrees(query: &Query, offset: u32) -> bool
     requires { known query.now.program.starts.now offset ≡ true }
-    ensures { result ≡ agree (program_of class_of query.now.program.settings (records_of query.now.program.code.now) query.now.program.starts.now) (call_of query.now.call.now) offset }
+    ensures { result ≡ agree (predicate_of query.now.program) (asked_by query.now) offset }
 {
-    for a in 1..=query.program.settings.arity {
-        let q = calls::call_key(query.call, a);
-        if !agree_at(q, indexing_iter::key_of(&query.program, offset, a)) {
-            return false;
-        }
-    }
-    true
+    (1..=query.program.settings.arity).all(|a| agree_at(
+        calls::call_key(query.call, a),
+        indexing_iter::key_of(&query.program, offset, a),
+    ))
 }
 
 // The offset of the first clause that agrees with the call.
 fn first_agreeing(query: &Query) -> Option<u32>
     ensures { result ≡ first_of (agreeing class_of query.now.program.code.now query.now.program.starts.now query.now.program.settings query.now.call.now) }
 {
-    for start in query.program.starts {
-        let offset = *start + 1;
-        if agrees(query, offset) {
-            return Some(offset);
-        }
-    }
-    None
+    query
+        .program
+        .starts
+        .iter()
+        .map(|start| *start + 1)
+        .find(|offset| agrees(query, *offset))
 }
 
 // The offset of some clause that agrees with the call, none if there is none; refused with the first of 1, 3 to 7 and 10

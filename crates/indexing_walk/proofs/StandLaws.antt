@@ -11,6 +11,7 @@ use lib.Seq.{length-take-le}
 use Rattle.records.specs.declared.Rec.{Rec}
 use Rattle.records.specs.Records.{records_of, zero_rec}
 use Rattle.indexing_iter.specs.Refusals.{passed}
+use Rattle.indexing_iter.specs.declared.program.Program.{Program as Checked}
 use Rattle.indexing_iter.specs.declared.Settings.{Settings}
 use Rattle.indexing_iter.specs.Checks.{check_code}
 use Rattle.indexing_iter.specs.Classes.{class_of}
@@ -31,7 +32,7 @@ use Rattle.indexing_scan.specs.Places.{At}
 use Rattle.indexing_scan.specs.ByArgument.{move, settle}
 use Rattle.indexing_scan.specs.Walk.{line, Move, Result}
 use Rattle.indexing_walk.specs.declared.Walking.{Walking}
-use Rattle.indexing_walk.specs.Walking.{index_in, Stands, Comes, rest_of, turns_left, Went}
+use Rattle.indexing_walk.specs.Walking.{index_in, StandsIn, Demands, Stands, Comes, rest_of, turns_left, Went}
 use Rattle.indexing_walk.proofs.WalkLaws.{rest, turns}
 use Rattle.indexing_walk.proofs.WalkLaws as Laws
 
@@ -143,6 +144,14 @@ pub record AtDemand (code starts : List ℕ) (S : Settings) (b : List ℕ) (w : 
   pub ready : Ready code starts S b w
   pub kind : (get_or (R ready) w.at zero_rec).kind ≡ 3
   pub half : a ≡ (get_or (R ready) w.at zero_rec).half
+
+-- a walk through an index of a program is one in checked code
+module _ (p : Checked) {b : List ℕ} {w : Walking} (s : StandsIn p b w) where
+  pub ready-in : Ready p.code.now p.starts.now p.settings b w
+  ready-in = record { checked = p.checked; stands = s }
+
+  pub demand-in : {a : ℕ} → Demands b w a → AtDemand p.code.now p.starts.now p.settings b w a
+  demand-in d = record { ready = ready-in; kind = d.0; half = d.1 }
 
 module _ {code starts : List ℕ} {S : Settings} {b : List ℕ} {w : Walking} {a : ℕ} (due : AtDemand code starts S b w a) where
   abbrev ready : Ready code starts S b w

@@ -13,6 +13,7 @@ use Rattle.records.specs.declared.Rec.{Rec}
 use Rattle.records.specs.Records.{records_of, zero_rec}
 use Rattle.indexing_iter.specs.declared.OptArgIndexKey.{OptArgIndexKey as Key}
 use Rattle.indexing_iter.specs.declared.Settings.{Settings}
+use Rattle.indexing_iter.specs.declared.program.Program.{Program as Checked}
 use Rattle.indexing_iter.specs.Keys.{is_open}
 use Rattle.indexing.proofs.Tests.{bool-absurd}
 use Rattle.indexing.specs.Builder.{capacity_of}
@@ -33,10 +34,10 @@ use Rattle.std.specs.declared.ops.ControlFlow.{ControlFlow}
 use Rattle.indexing_walk.specs.declared.Looked.{Looked}
 use Rattle.indexing_walk.specs.declared.Ended.{Ended}
 use Rattle.indexing_walk.specs.declared.Walking.{Walking}
-use Rattle.indexing_walk.specs.Walking.{led_to, choice_led, looked_by, moved_to, ended_by, turned_by, ListedBy, Comes, rest_of, Ends, Went, Turns}
+use Rattle.indexing_walk.specs.Walking.{led_to, choice_led, looked_by, moved_to, ended_by, turned_by, ListedBy, record_at, StandsIn, Comes, rest_of, Ends, Went, Turns}
 use Rattle.indexing_walk.proofs.WalkLaws.{rest, ends, left-next, left-whole, led, move-is, quiet-open, quiet-table}
 use Rattle.indexing_walk.proofs.LineLaws.{fit, some-clause}
-use Rattle.indexing_walk.proofs.StandLaws.{Ready, program, R, here, there, within, left-of, orderly, size_is, stands_at, went-at, left-first, place-first, arg-range, turned}
+use Rattle.indexing_walk.proofs.StandLaws.{Ready, AtDemand, ready-in, program, R, here, there, within, left-of, orderly, size_is, stands_at, went-at, left-first, place-first, arg-range, turned}
 
 -- a case, as a number's name and back
 ending-back : (k : Case) → case_of (ending_of k) ≡ k
@@ -167,6 +168,14 @@ pub record AtTable (code starts : List ℕ) (S : Settings) (b : List ℕ) (w : W
   pub ready : Ready code starts S b w
   pub half : a ≡ (get_or (R ready) w.at zero_rec).half
   pub table : is_table (get_or (R ready) w.at zero_rec).kind ≡ true
+
+-- where an on-demand table stands it is; and where a record is read that is a table's
+pub demand-table : {code starts : List ℕ} {S : Settings} {b : List ℕ} {w : Walking} {a : ℕ} → AtDemand code starts S b w a → AtTable code starts S b w a
+demand-table d = record { ready = d.ready; half = d.half; table = ap is_table d.kind }
+
+pub table-in : (p : Checked) {b : List ℕ} {w : Walking} → StandsIn p b w → (r : Rec) → r ≡ record_at b w → is_table r.kind ≡ true
+    → {a : ℕ} → a ≡ r.half → AtTable p.code.now p.starts.now p.settings b w a
+table-in p s r e k h = record { ready = ready-in p s; half = h ∙ ap (λ (x : Rec). x.half) e; table = ap (λ (x : Rec). is_table x.kind) (sym e) ∙ k }
 
 -- and the call's key there is key
 module _ {code starts : List ℕ} {S : Settings} {b : List ℕ} {w : Walking} {a : ℕ} (t : AtTable code starts S b w a) (call : List ℕ) (key : Key) (is : key ≡ call_of call a) where

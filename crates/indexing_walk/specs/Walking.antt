@@ -5,6 +5,7 @@ use Rattle.std.proofs.Math.Option.{Option, none, some}
 use Rattle.records.specs.declared.Rec.{Rec}
 use Rattle.records.specs.Records.{records_of, zero_rec}
 use Rattle.indexing_iter.specs.declared.Settings.{Settings}
+use Rattle.indexing_iter.specs.declared.program.Program.{Program}
 use Rattle.indexing_iter.specs.Classes.{class_of}
 use Rattle.indexing_iter.specs.Clauses.{known}
 use Rattle.indexing_iter.specs.Keys.{is_open}
@@ -19,6 +20,7 @@ use Rattle.indexing_scan.specs.Calls.{call_of}
 use Rattle.indexing_scan.specs.Cases.{case_of}
 use Rattle.indexing_scan.specs.Places.{At, behind_line, choice_of}
 use Rattle.indexing_scan.specs.declared.stored.Chosen.{Chosen}
+use Rattle.indexing_scan.specs.declared.query.Query.{Query}
 use Rattle.indexing_walk.specs.declared.Looked.{Looked}
 use Rattle.indexing_walk.specs.declared.Looked.TheVariants.{Failed, External, Enter}
 use Rattle.indexing_walk.specs.declared.Walking.{Walking}
@@ -69,6 +71,21 @@ pub record Stands (S : Settings) (starts b : List ℕ) (w : Walking) : Type 0 wh
 -- the buffer b, which was b₀, has an index of n records in front, and is as it was behind it
 abbrev pub Kept : Settings → List ℕ → List ℕ → ℕ → Type 0
 Kept S b₀ b n = b ≡ stored S.dynamic (index_in b n) b₀
+
+-- the records of its index, and the one at its place
+abbrev pub stored_in : List ℕ → Walking → List Rec
+stored_in b w = take w.count (records_of b)
+
+abbrev pub record_at : List ℕ → Walking → Rec
+record_at b w = get_or (stored_in b w) w.at zero_rec
+
+-- an on-demand table stands there, for argument a
+abbrev pub Demands : List ℕ → Walking → ℕ → Type 0
+Demands b w a = ((record_at b w).kind ≡ 3) × (a ≡ (record_at b w).half)
+
+-- a walk through an index of a program stands in the buffer
+abbrev pub StandsIn : Program → List ℕ → Walking → Type 0
+StandsIn program b w = Stands program.settings program.starts.now b w
 
 -- ---- the ways of a turn
 
@@ -155,3 +172,14 @@ abbrev pub Walks : List ℕ → List ℕ → Settings → List ℕ → List ℕ 
 Walks code starts S call b w b' list e =
     ((W : Result) → Comes W w.tables (rest_of code starts S call b w) → Ends b' list W e) × ((b₀ : List ℕ) → Kept S b₀ b w.count → Kept S b₀ b' e.records)
     × (e.count ≤ length starts)
+
+-- ---- the same of a program and of a call of it
+
+abbrev pub TurnsBy : Query → List ℕ → Walking → List ℕ → List ℕ → ControlFlow Ended Walking → Type 0
+TurnsBy query = Turns query.program.code.now query.program.starts.now query.program.settings query.call.now
+
+abbrev pub WalksBy : Query → List ℕ → Walking → List ℕ → List ℕ → Ended → Type 0
+WalksBy query = Walks query.program.code.now query.program.starts.now query.program.settings query.call.now
+
+abbrev pub WentIn : Program → List ℕ → Walking → ℕ → List ℕ → Walking → Type 0
+WentIn program = WentBound program.code.now program.starts.now program.settings

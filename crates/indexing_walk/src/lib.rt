@@ -14,17 +14,19 @@ ghost use Rattle.indexing.specs.Builder.{capacity_of};
 ghost use Rattle.well_formed.specs.WellFormed.{well_formed};
 ghost use Rattle.indexing_scan.specs.Calls.{check_index, walked_by, result_of, walk_call};
 ghost use Rattle.indexing_walk.specs.Answers.{told_by, walked_of};
-ghost use Rattle.indexing_walk.specs.Walking.{Stands, Walks};
+ghost use Rattle.indexing_walk.specs.Walking.{StandsIn, WalksBy};
 
 use indexing_iter::Settings;
 use indexing_iter::program::Program;
 use indexing_iter::refusal::Refusal;
 use indexing_scan::case::Case;
 use indexing_scan::query::Query;
+use indexing_scan::stored_index::Stored;
 use std::ops::ControlFlow;
 
-// What a switch leads to: nothing, a clause, or a line by its number and the place of its first table.
-#[derive(Clone, Copy)]
+// What a switch leads to: nothing, a clause, or a line by its number and the place of its first table. Two of the cases
+// lead on: an Option would have an enum inside.
+#[derive(Clone, Copy, Debug, PartialEq, Eq)]
 pub enum Looked {
     Failed,
     External(u32),
@@ -34,7 +36,7 @@ pub enum Looked {
 // Where a walk is: its line, its place, the first argument whose table may be left, the records and lines of the index, whether
 // expansions are stored, and the tables looked at. The contracts say that these are at most 64, and no ghost field does: the definitions
 // count one more table at any number.
-#[derive(Clone, Copy)]
+#[derive(Clone, Copy, Debug, PartialEq, Eq)]
 pub struct Walking {
     pub line: u32,
     pub at: usize,
@@ -45,8 +47,21 @@ pub struct Walking {
     pub tables: u32,
 }
 
+impl Walking {
+    // The index that the walk goes through, at the front of a buffer.
+    fn stored<'a>(self, index: &'a [u8]) -> Stored<'a>
+        requires { self.count ≤ length (records_of index.now) }
+        ensures { (result.index.now ≡ index.now) × (result.count ≡ self.count) }
+    {
+        Stored {
+            index,
+            count: self.count,
+        }
+    }
+}
+
 // How a walk ended: case, line number, count of offsets, tables looked at, whether all was stored, records of the index.
-#[derive(Clone, Copy)]
+#[derive(Clone, Copy, Debug, PartialEq, Eq)]
 pub struct Ended {
     pub case: Case,
     pub line: u32,
@@ -64,8 +79,8 @@ fn walk_lines(
     list: &mut [u32; 1024],
     tags: &mut [u8; 1024],
 ) -> Ended
-    requires { Stands query.now.program.settings query.now.program.starts.now index.old first }
-    ensures { Walks query.now.program.code.now query.now.program.starts.now query.now.program.settings query.now.call.now index.old first index.new list.new result }
+    requires { StandsIn query.now.program index.old first }
+    ensures { WalksBy query.now index.old first index.new list.new result }
 {
     let mut w = first;
     loop {

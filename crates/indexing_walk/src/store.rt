@@ -1,13 +1,11 @@
 // The turn at an on-demand table while expansions are stored: the switch and its lines are written, or nothing is stored any more.
-ghost use Rattle.std.specs.Prelude.{◌≡◌, length, take, get_or, true};
-ghost use Rattle.records.specs.Records.{records_of, zero_rec};
+ghost use Rattle.std.specs.Prelude.{◌≡◌, length, true};
 ghost use Rattle.indexing_scan.specs.Places.{first_offset, offsets_at};
-ghost use Rattle.indexing_walk.specs.Walking.{Stands, WentBound};
+ghost use Rattle.indexing_walk.specs.Walking.{stored_in, StandsIn, Demands, WentIn};
 
 use crate::Walking;
 use indexing_builder::expansion::{Grown, OnDemand};
 use indexing_iter::program::Program;
-use indexing_scan::stored_index::Stored;
 
 // The expansion with two lists as long as the line, whose offsets start at place q: the walk looks again at its place, or stores nothing
 // any more.
@@ -20,13 +18,13 @@ fn store_line(
     list: &mut [u32],
     tags: &mut [u8],
 ) -> Walking
-    requires stands { Stands program.now.settings program.now.starts.now index.old w }
+    requires stands { StandsIn program.now index.old w }
     requires list_len { (length tags.old ≡ length list.old) × (w.storing ≡ true) }
-    requires q_value { (q ≡ first_offset (take w.count (records_of index.old)) w.at) × (length list.old ≡ offsets_at (take w.count (records_of index.old)) q) }
-    requires zero_rec_value { ((get_or (take w.count (records_of index.old)) w.at zero_rec).kind ≡ 3) × (a ≡ (get_or (take w.count (records_of index.old)) w.at zero_rec).half) }
-    ensures { WentBound program.now.code.now program.now.starts.now program.now.settings index.old w a index.new result }
+    requires q_value { (q ≡ first_offset (stored_in index.old w) w.at) × (length list.old ≡ offsets_at (stored_in index.old w) q) }
+    requires table { Demands index.old w a }
+    ensures { WentIn program.now index.old w a index.new result }
 {
-    index_writer::columns::read_choices(index, q, list.len(), list, tags);
+    index_writer::columns::read_choices(index, q, list, tags);
     let table = OnDemand {
         arg: a,
         at: w.at,
@@ -61,15 +59,12 @@ pub fn turn_store(
     list: &mut [u32; 1024],
     tags: &mut [u8; 1024],
 ) -> Walking
-    requires stands { Stands program.now.settings program.now.starts.now index.old w }
+    requires stands { StandsIn program.now index.old w }
     requires on { w.storing ≡ true }
-    requires zero_rec_value { ((get_or (take w.count (records_of index.old)) w.at zero_rec).kind ≡ 3) × (a ≡ (get_or (take w.count (records_of index.old)) w.at zero_rec).half) }
-    ensures { WentBound program.now.code.now program.now.starts.now program.now.settings index.old w a index.new result }
+    requires table { Demands index.old w a }
+    ensures { WentIn program.now index.old w a index.new result }
 {
-    let stored = Stored {
-        index,
-        count: w.count,
-    };
+    let stored = w.stored(index);
     let q = indexing_scan::stored::first_offset(&stored, w.at);
     let m = indexing_scan::stored::count_offsets(&stored, q);
     store_line(program, index, w, a, q, &mut list[..m], &mut tags[..m])

@@ -1,13 +1,17 @@
 // One turn of a walk: what is done at the table, or at the end of the tables, that the walk has come to.
-ghost use Rattle.std.specs.Prelude.{◌≡◌, ◌+◌, ◌≤◌, ◌<◌, length, take, drop, get_or, cond, true, false, ◌++◌, eqb};
+// (query, index, w, list, tags) are no struct: index, list and tags are lent to be written in each turn, and the walk is a value that a turn gives back.
+// A struct of the lent buffers would make each contract speak of the states of its fields.
+// w.count ≤ length (records_of index) is asked by functions that read index: a Walking is a value of the definitions and holds no index.
+// a ≤ 64 and w.tables ≤ 64 are asked where one is added to them: both are numbers of the definitions (see Walking).
+ghost use Rattle.std.specs.Prelude.{◌≡◌, ◌+◌, ◌≤◌, ◌<◌, length, drop, cond, true, false, ◌++◌, eqb};
 ghost use Rattle.std.proofs.Math.Seq.{slice};
-ghost use Rattle.records.specs.Records.{records_of, zero_rec};
+ghost use Rattle.records.specs.Records.{records_of};
 ghost use Rattle.indexing_iter.specs.Keys.{is_open};
 ghost use Rattle.indexing_scan.specs.declared.case.Case.TheVariants.{Sequence, Variadic};
-ghost use Rattle.indexing_scan.specs.Calls.{call_of};
 ghost use Rattle.indexing.specs.Columns.{words_of};
-ghost use Rattle.indexing_scan.specs.Places.{is_table, behind_table, choose_rec, first_offset, offsets_at};
-ghost use Rattle.indexing_walk.specs.Walking.{followed_by, looked_by, moved_to, ended_by, turned_by, ListedBy, Stands, Turns};
+ghost use Rattle.indexing_scan.specs.Places.{is_table, records_by, behind_table, choose_rec, first_offset, offsets_at};
+ghost use Rattle.indexing_scan.specs.Readings.{asked_by};
+ghost use Rattle.indexing_walk.specs.Walking.{followed_by, looked_by, moved_to, ended_by, turned_by, ListedBy, stored_in, record_at, StandsIn, Demands, TurnsBy};
 
 use crate::{Ended, Looked, Walking, store};
 use indexing::kinds::Kind;
@@ -17,12 +21,13 @@ use indexing_scan::query::Query;
 use indexing_scan::stored::Chosen;
 use indexing_scan::stored_index::Stored;
 use indexing_scan::unstored::Narrowed;
+use records::Rec;
 use std::ops::ControlFlow;
 
 // Follows a pointer from place p in line l.
 fn follow(stored: &Stored, p: usize, l: u32, word: u32) -> Looked
     requires { (p ≤ stored.now.count) × (l ≤ 65535) }
-    ensures { result ≡ followed_by (take stored.now.count (records_of stored.now.index.now)) p l word }
+    ensures { result ≡ followed_by (records_by stored.now) p l word }
 {
     if records::pointer::is_internal(word) {
         let d = records::pointer::distance(word);
@@ -31,17 +36,17 @@ fn follow(stored: &Stored, p: usize, l: u32, word: u32) -> Looked
     Looked::External(word)
 }
 
-// The switch whose record is at place p of line l, looked at with the key q.
-fn look_switch(stored: &Stored, p: usize, l: u32, q: OptArgIndexKey) -> Looked
-    requires { (p < stored.now.count) × (l ≤ 65535) }
-    ensures { let R = records_of stored.now.index.now in
-        let rs = take stored.now.count R in
-        result ≡ looked_by rs p l (choose_rec q (slice (p + 1) (behind_table rs p) R)) }
+// The switch at the walk's place, looked at with the key q.
+fn look_switch(index: &[u8], w: Walking, q: OptArgIndexKey) -> Looked
+    requires { (w.at < w.count) × (w.count ≤ length (records_of index.now)) × (w.line ≤ 65535) }
+    ensures { let rs = stored_in index.now w in
+        result ≡ looked_by rs w.at w.line (choose_rec q (slice (w.at + 1) (behind_table rs w.at) (records_of index.now))) }
 {
-    let end = indexing_scan::stored::skip_items(stored, p);
-    match indexing_scan::stored::choose_entry(stored.index, p + 1, end, q) {
+    let stored = w.stored(index);
+    let end = indexing_scan::stored::skip_items(&stored, w.at);
+    match indexing_scan::stored::choose_entry(index, w.at + 1, end, q) {
         Chosen::Nothing => Looked::Failed,
-        Chosen::Only(w) | Chosen::Equal(w) => follow(stored, p, l, w),
+        Chosen::Only(word) | Chosen::Equal(word) => follow(&stored, w.at, w.line, word),
     }
 }
 
@@ -93,15 +98,12 @@ fn turn_by(w: Walking, a: u32, x: Looked, list: &mut [u32]) -> ControlFlow<Ended
 // No table is left: the offsets of the line are put at the front of the list.
 fn end_line(index: &[u8], w: Walking, list: &mut [u32]) -> Ended
     requires at_le_count { (w.at ≤ w.count) × (w.count ≤ length (records_of index.now)) × (w.tables ≤ 64) }
-    requires at_in_bounds { offsets_at (take w.count (records_of index.now)) w.at ≤ length list.old }
-    ensures value { result ≡ ended_by w (cond (eqb w.line 0) Variadic Sequence) w.line (offsets_at (take w.count (records_of index.now)) w.at) 0 }
-    ensures list_after { let k = offsets_at (take w.count (records_of index.now)) w.at in
+    requires at_in_bounds { offsets_at (stored_in index.now w) w.at ≤ length list.old }
+    ensures value { result ≡ ended_by w (cond (eqb w.line 0) Variadic Sequence) w.line (offsets_at (stored_in index.now w) w.at) 0 }
+    ensures list_after { let k = offsets_at (stored_in index.now w) w.at in
         list.new ≡ words_of (slice w.at (w.at + k) (records_of index.now)) ++ drop k list.old }
 {
-    let stored = Stored {
-        index,
-        count: w.count,
-    };
+    let stored = w.stored(index);
     let k = indexing_scan::stored::count_offsets(&stored, w.at);
     indexing_scan::stored::copy_offsets(index, w.at, &mut list[..k]);
     let case = if w.line == 0 {
@@ -112,29 +114,27 @@ fn end_line(index: &[u8], w: Walking, list: &mut [u32]) -> Ended
     end_with(w, case, w.line, k, 0)
 }
 
-// Reads the offsets of the line at place p to the front of the list, and gives their number.
-fn read_line(stored: &Stored, p: usize, list: &mut [u32]) -> usize
-    requires p_le_n { p ≤ stored.now.count }
-    requires p_in_bounds { let rs = take stored.now.count (records_of stored.now.index.now) in offsets_at rs (first_offset rs p) ≤ length list.old }
-    ensures { let rs = take stored.now.count (records_of stored.now.index.now) in
-        let q = first_offset rs p in
-        (result ≡ offsets_at rs q) × (list.new ≡ words_of (slice q (q + result) (records_of stored.now.index.now)) ++ drop result list.old) }
+// Reads the offsets of the walk's line to the front of the list, and gives their number.
+fn read_line(index: &[u8], w: Walking, list: &mut [u32]) -> usize
+    requires at_le_count { (w.at ≤ w.count) × (w.count ≤ length (records_of index.now)) }
+    requires at_in_bounds { let rs = stored_in index.now w in offsets_at rs (first_offset rs w.at) ≤ length list.old }
+    ensures { let rs = stored_in index.now w in
+        let q = first_offset rs w.at in
+        (result ≡ offsets_at rs q) × (list.new ≡ words_of (slice q (q + result) (records_of index.now)) ++ drop result list.old) }
 {
-    let q = indexing_scan::stored::first_offset(stored, p);
-    let k = indexing_scan::stored::count_offsets(stored, q);
-    indexing_scan::stored::copy_offsets(stored.index, q, &mut list[..k]);
+    let stored = w.stored(index);
+    let q = indexing_scan::stored::first_offset(&stored, w.at);
+    let k = indexing_scan::stored::count_offsets(&stored, q);
+    indexing_scan::stored::copy_offsets(index, q, &mut list[..k]);
     k
 }
 
 // To the next table: the one at the walk's place was for argument a.
 fn pass_table(index: &[u8], w: Walking, a: u32) -> Walking
     requires { (w.at < w.count) × (w.count ≤ length (records_of index.now)) × (w.tables ≤ 64) × (a ≤ 64) }
-    ensures { result ≡ moved_to w w.line (behind_table (take w.count (records_of index.now)) w.at) a }
+    ensures { result ≡ moved_to w w.line (behind_table (stored_in index.now w) w.at) a }
 {
-    let stored = Stored {
-        index,
-        count: w.count,
-    };
+    let stored = w.stored(index);
     let p = indexing_scan::stored::skip_items(&stored, w.at);
     moved_to(w, w.line, p, a)
 }
@@ -149,17 +149,13 @@ fn turn_unstored(
     q: OptArgIndexKey,
     list: &mut [u32; 1024],
 ) -> ControlFlow<Ended, Walking>
-    requires stands { Stands query.now.program.settings query.now.program.starts.now index.now w }
+    requires stands { StandsIn query.now.program index.now w }
     requires off { w.storing ≡ false }
-    requires zero_rec_value { ((get_or (take w.count (records_of index.now)) w.at zero_rec).kind ≡ 3) × (a ≡ (get_or (take w.count (records_of index.now)) w.at zero_rec).half) }
-    requires q_value { (q ≡ call_of query.now.call.now a) × (is_open q ≡ false) }
-    ensures { Turns query.now.program.code.now query.now.program.starts.now query.now.program.settings query.now.call.now index.now w index.now list.new result }
+    requires table { Demands index.now w a }
+    requires q_value { (q ≡ asked_by query.now a) × (is_open q ≡ false) }
+    ensures { TurnsBy query.now index.now w index.now list.new result }
 {
-    let stored = Stored {
-        index,
-        count: w.count,
-    };
-    let m = read_line(&stored, w.at, list);
+    let m = read_line(index, w, list);
     match indexing_scan::unstored::demand_at(&query.program, &mut list[..m], a, q) {
         Narrowed::NoTable => ControlFlow::Continue(w),
         Narrowed::Passed(_) => ControlFlow::Continue(pass_table(index, w, a)),
@@ -172,37 +168,36 @@ fn turn_unstored(
     }
 }
 
-// The turn at a table of that kind for argument a, with the bound key q.
+// The turn at a table, with the bound key q of its argument.
 fn turn_bound(
     query: &Query,
     index: &mut [u8],
     w: Walking,
-    kind: u8,
-    a: u32,
+    table: Rec,
     q: OptArgIndexKey,
     list: &mut [u32; 1024],
     tags: &mut [u8; 1024],
 ) -> ControlFlow<Ended, Walking>
-    requires stands { Stands query.now.program.settings query.now.program.starts.now index.old w }
-    requires kind_value { (kind ≡ (get_or (take w.count (records_of index.old)) w.at zero_rec).kind) × (a ≡ (get_or (take w.count (records_of index.old)) w.at zero_rec).half) }
-    requires kind_value_2 { (is_table kind ≡ true) × (q ≡ call_of query.now.call.now a) × (is_open q ≡ false) }
-    ensures { Turns query.now.program.code.now query.now.program.starts.now query.now.program.settings query.now.call.now index.old w index.new list.new result }
+    requires stands { StandsIn query.now.program index.old w }
+    requires table_value { (table ≡ record_at index.old w) × (is_table table.kind ≡ true) }
+    requires q_value { (q ≡ asked_by query.now table.half) × (is_open q ≡ false) }
+    ensures { TurnsBy query.now index.old w index.new list.new result }
 {
-    if kind == Kind::Dead as u8 {
-        return ControlFlow::Continue(pass_table(index, w, a));
-    }
-    if kind == Kind::Switch as u8 {
-        let stored = Stored {
+    let a = u32::from(table.half);
+    match Kind::try_from(table.kind) {
+        Ok(Kind::Dead) => ControlFlow::Continue(pass_table(index, w, a)),
+        Ok(Kind::Switch) => turn_by(w, a, look_switch(index, w, q), list),
+        // On demand: no other kind is a table's.
+        _ if w.storing => ControlFlow::Continue(store::turn_store(
+            &query.program,
             index,
-            count: w.count,
-        };
-        let x = look_switch(&stored, w.at, w.line, q);
-        return turn_by(w, a, x, list);
+            w,
+            a,
+            list,
+            tags,
+        )),
+        _ => turn_unstored(query, index, w, a, q, list),
     }
-    if w.storing {
-        return ControlFlow::Continue(store::turn_store(&query.program, index, w, a, list, tags));
-    }
-    turn_unstored(query, index, w, a, q, list)
 }
 
 // One turn of a walk.
@@ -213,18 +208,17 @@ pub fn turn(
     list: &mut [u32; 1024],
     tags: &mut [u8; 1024],
 ) -> ControlFlow<Ended, Walking>
-    requires { Stands query.now.program.settings query.now.program.starts.now index.old w }
-    ensures { Turns query.now.program.code.now query.now.program.starts.now query.now.program.settings query.now.call.now index.old w index.new list.new result }
+    requires { StandsIn query.now.program index.old w }
+    ensures { TurnsBy query.now index.old w index.new list.new result }
 {
     let r = records::record_in(index, w.count, w.at);
-    let kind = r.kind;
-    if !indexing_scan::stored::is_table(kind) {
+    if !indexing_scan::stored::is_table(r.kind) {
         return ControlFlow::Break(end_line(index, w, list));
     }
-    let a = r.half as u32;
+    let a = u32::from(r.half);
     let q = indexing_scan::calls::call_key(query.call, a);
     if indexing_iter::is_open(q) {
         return ControlFlow::Continue(pass_table(index, w, a));
     }
-    turn_bound(query, index, w, kind, a, q, list, tags)
+    turn_bound(query, index, w, r, q, list, tags)
 }

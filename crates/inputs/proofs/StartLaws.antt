@@ -1,15 +1,16 @@
--- The starts at the front of a list of records: a turn of the loop that counts them, and the word of each. Assumes nothing.
-use mathlib.Core.Path.{◌≡◌, refl, ap, ◌∙◌}
-use Prim.Native.Nat.{ℕ, zero, suc, ◌+◌, ◌≤◌, ◌<◌}
-use native.Mathlib.Nat.{not-suc-le-zero, le_of_suc-le-suc, add_comm}
+-- The starts at the front of a list of records: a turn of the loop that counts them, and the words. Assumes nothing.
+use mathlib.Core.Path.{◌≡◌, refl, sym, ap, ◌∙◌}
+use Prim.Native.Nat.{ℕ, suc, ◌+◌, ◌-◌, ◌≤◌, ◌<◌}
 use native.Mathlib.Numerals.{add-one}
 use native.Mathlib.Omega.{arith}
 use mathlib.Core.Bool.{Bool, true, false, cond}
 use mathlib.Core.List.{List, [], ◌∷◌}
 use lib.Dec.{eqb}
 use borrow.Author.Tests.{eq-eqb, ne_eqb}
-use lib.ListN.{length, get_or, drop, length-drop, drop_of_length-le}
-use lib.Seq.{drop-cons, get_or-drop}
+use lib.ListN.{length, get_or, take, drop, length-drop, drop_of_length-le}
+use lib.Seq.{slice, drop-cons}
+use Rattle.std.specs.Prelude.{map}
+use Rattle.records.proofs.MoveLaws.{slice-take}
 use Rattle.records.specs.declared.Rec.{Rec}
 use Rattle.records.specs.Records.{zero_rec}
 use Rattle.inputs.specs.Input.{starts_in}
@@ -33,19 +34,6 @@ pub starts-end : (rs : List Rec) (i : ℕ) → length rs ≤ i → length (start
 unfolding starts_in
 starts-end rs i h = rw (drop_of_length-le rs h) refl
 
--- each start is the word of its record
-pub starts-word : (rs : List Rec) (i : ℕ) → i < length (starts_in rs) → get_or (starts_in rs) i 0 ≡ (get_or rs i zero_rec).word
-unfolding starts_in
-starts-word [] i h = absurd (not-suc-le-zero h)
-starts-word (r ∷ rs) i h = go (eqb r.kind 241) i h (starts-word rs)
-  where
-    go : (b : Bool) (k : ℕ) → k < length (cond b (r.word ∷ starts_in rs) [])
-        → ((m : ℕ) → m < length (starts_in rs) → get_or (starts_in rs) m 0 ≡ (get_or rs m zero_rec).word)
-        → get_or (cond b (r.word ∷ starts_in rs) []) k 0 ≡ (get_or (r ∷ rs) k zero_rec).word
-    go true zero l f = refl
-    go true (suc k) l f = f k (le_of_suc-le-suc l)
-    go false k l f = absurd (not-suc-le-zero l)
-
 pub starts-within : (rs : List Rec) → length (starts_in rs) ≤ length rs
 unfolding starts_in
 starts-within [] = omega arith
@@ -55,14 +43,25 @@ starts-within (r ∷ rs) = go (eqb r.kind 241) (starts-within rs)
     go true h = omega arith
     go false h = omega arith
 
--- the starts behind the first record
-pub word-behind : (rs : List Rec) (i : ℕ) → i < length (starts_in (drop 1 rs)) → get_or (starts_in (drop 1 rs)) i 0 ≡ (get_or rs (i + 1) zero_rec).word
-word-behind rs i h =
-    starts-word (drop 1 rs) i h
-    ∙ ap (λ (r : Rec). r.word) (get_or-drop 1 rs i zero_rec ∙ ap (λ (k : ℕ). get_or rs k zero_rec) (add_comm 1 i))
+-- each start is the word of its record
+starts-words : (rs : List Rec) → starts_in rs ≡ map (λ r. r.word) (take (length (starts_in rs)) rs)
+unfolding starts_in
+starts-words [] = refl
+starts-words (r ∷ rs) = go (eqb r.kind 241) (starts-words rs)
+  where
+    go : (b : Bool) → starts_in rs ≡ map (λ r. r.word) (take (length (starts_in rs)) rs)
+        → cond b (r.word ∷ starts_in rs) [] ≡ map (λ r. r.word) (take (length (cond b (r.word ∷ starts_in rs) [])) (r ∷ rs))
+    go true h = ap (λ (l : List ℕ). r.word ∷ l) h
+    go false h = refl
 
-pub behind-within : (rs : List Rec) (i : ℕ) → i < length (starts_in (drop 1 rs)) → i + 1 < length rs
-behind-within rs i h = omega (arith, starts-within (drop 1 rs), length-drop 1 rs)
+-- the starts behind the first record
+pub words-behind : (rs : List Rec) (n : ℕ) → n ≡ length (starts_in (drop 1 rs)) → map (λ r. r.word) (slice 1 (1 + n) rs) ≡ starts_in (drop 1 rs)
+words-behind rs n e =
+    let k : 1 + n - 1 ≡ length (starts_in (drop 1 rs)) = omega arith in
+    ap (map (λ r. r.word)) (slice-take 1 (1 + n) rs (omega arith) ∙ ap (λ (m : ℕ). take m (drop 1 rs)) k) ∙ sym (starts-words (drop 1 rs))
+
+pub behind-room : (rs : List Rec) → length (starts_in (drop 1 rs)) ≤ length rs - 1
+behind-room rs = omega (arith, starts-within (drop 1 rs), length-drop 1 rs)
 
 pub behind-most : (rs : List Rec) → length (starts_in (drop 1 rs)) ≤ length rs
-behind-most rs = omega (arith, starts-within (drop 1 rs), length-drop 1 rs)
+behind-most rs = omega (arith, behind-room rs)

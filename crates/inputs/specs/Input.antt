@@ -1,20 +1,20 @@
 -- The input of the programs (document 01, "Worked show"): 240 settings, 241 for each start, then code.
 -- Assumes nothing.
-use Rattle.std.specs.Prelude.{ℕ, ◌+◌, ◌*◌, ◌/◌, ◌%◌, Bool, true, false, cond, List, [], ◌∷◌, eqb, ltb, length, get_or, take, drop}
+use Rattle.std.specs.Prelude.{ℕ, ◌+◌, ◌*◌, Bool, true, false, cond, List, [], ◌∷◌, eqb, ltb, length, get_or, take, drop}
 use Rattle.records.specs.declared.Rec.{Rec}
 use Rattle.records.specs.Records.{records_of, zero_rec}
 use Rattle.indexing_iter.specs.declared.Settings.{Settings}
 use Rattle.indexing_iter.specs.Classes.{class_of}
+use Rattle.indexing_iter.specs.Flags.{flag_in, settings_by_flags}
 use Rattle.indexing.specs.Builder.{Built, build_call}
 
 -- the bit of sub whose value is k (1, 2, 4 or 8) is set
 abbrev pub bit : ℕ → ℕ → Bool
-bit sub k = eqb (sub / k % 2) 1
+bit sub k = flag_in sub k
 
 -- sub bits 0 to 3 dynamic, extensible, non-counted, skip; half arity, word mask; no settings first counts as arity 0
 abbrev pub settings_from : Bool → Rec → Settings
-settings_from true r =
-    record { arity = r.half; mask = r.word; dynamic = bit r.sub 1; extensible = bit r.sub 2; non_counted = bit r.sub 4; skip = bit r.sub 8 }
+settings_from true r = settings_by_flags r.half r.word r.sub
 settings_from false r = record { arity = 0; mask = 0; dynamic = false; extensible = false; non_counted = false; skip = false }
 
 unfoldable pub settings_of : List ℕ → Settings

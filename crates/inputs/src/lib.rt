@@ -9,8 +9,8 @@ ghost use Rattle.indexing_builder.specs.Answer.{built_of};
 ghost use Rattle.inputs.specs.Input.{bit as bit_of, settings_from, starts_in, lines_call};
 
 use indexing_builder::Built;
-use indexing_iter::Settings;
 use indexing_iter::refusal::Refusal;
+use indexing_iter::{Settings, flags};
 use part::Part;
 use records::Rec;
 
@@ -19,31 +19,18 @@ pub fn bit(sub: u8, k: u8) -> bool
     requires { 0 < k }
     ensures { result ≡ bit_of sub k }
 {
-    sub / k % 2 == 1
+    flags::flag(u32::from(sub), u32::from(k))
 }
 
 // The settings in the first record of an input; any other kind counts as arity 0.
+#[tactic(auto, unfolding(indexing_iter::specs::Flags::settings_by_flags))]
 pub fn settings_in(r: Rec) -> Settings
     ensures { result ≡ settings_from (eqb r.kind 240) r }
 {
-    if r.kind == Part::Settings as u8 {
-        return Settings {
-            arity: u32::from(r.half),
-            mask: r.word,
-            dynamic: bit(r.sub, 1),
-            extensible: bit(r.sub, 2),
-            non_counted: bit(r.sub, 4),
-            skip: bit(r.sub, 8),
-        };
+    if r.kind == u8::from(Part::Settings) {
+        return Settings::from_flags(u32::from(r.half), r.word, u32::from(r.sub));
     }
-    Settings {
-        arity: 0,
-        mask: 0,
-        dynamic: false,
-        extensible: false,
-        non_counted: false,
-        skip: false,
-    }
+    Settings::from_flags(0, 0, 0)
 }
 
 // The first record of an input, all zero where there is none.
@@ -54,13 +41,13 @@ pub fn first_record(input: &[u8]) -> Rec
     records::record_in(input, n, 0)
 }
 
-// How many starts follow the first record.
+// How many starts follow the first record. A loop: tried as `(1..n).take_while(..).count()`, and the proof did not close.
 pub fn count_starts(input: &[u8]) -> usize
     ensures { result ≡ length (starts_in (drop 1 (records_of input.now))) }
 {
     let n = records::capacity(input);
     for i in 1..n {
-        if records::get(input, i).kind != Part::Start as u8 {
+        if records::get(input, i).kind != u8::from(Part::Start) {
             return i - 1;
         }
     }
@@ -72,9 +59,7 @@ pub fn read_starts(input: &[u8], starts: &mut [u32])
     requires { length starts.old ≡ length (starts_in (drop 1 (records_of input.now))) }
     ensures { starts.new ≡ starts_in (drop 1 (records_of input.now)) }
 {
-    for i in 0..starts.len() {
-        starts[i] = records::get(input, i + 1).word;
-    }
+    records::read_words(input, 1, starts);
 }
 
 // The index of an input that is not too long; starts has the length of its starts.
@@ -103,8 +88,7 @@ fn list_longer(input: &[u8], index: &mut [u8]) -> Result<Built, Refusal>
 }
 
 // The index of an input; space has room for the starts of any that is not too long.
-fn list_with(input: &[u8], space: &mut [u32], index: &mut [u8]) -> Result<Built, Refusal>
-    requires { length space.old ≡ 4096 }
+fn list_with(input: &[u8], space: &mut [u32; 4096], index: &mut [u8]) -> Result<Built, Refusal>
     ensures { built_of result index.new ≡ lines_call input.now index.old }
 {
     if 65536 < input.len() {

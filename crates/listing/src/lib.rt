@@ -1,4 +1,9 @@
 // The listing of an index, as text: one line for each record, its five numbers in decimal with a blank between them.
+// A text is filled from its end, so the place where it begins stands beside it: it is a result that is handed on.
+// A number is made a digit by `as`: From makes no u8 of a u64.
+// put_lines, print_lines and print_part fill and print a text by a rule of their own, as put_offsets and print_some of walk_listing do by theirs: one
+// function over a closure would promise less of the text.
+// At most 128 records are asked of the three, which call one another: a text has room for so many lines.
 #![tactic(auto)]
 
 pub mod replay;
@@ -12,7 +17,7 @@ use indexing_iter::refusal::Refusal;
 use records::Rec;
 
 // Puts a number in decimal before a place, from its last digit back, and answers where it begins. No u64 has more than
-// twenty digits.
+// twenty digits. By hand: the digits are proved equal to a definition; std prints to a stream, of which nothing is proved.
 pub fn put_number(text: &mut [u8], end: usize, n: u64) -> usize
     requires { (20 ≤ end) × (end ≤ length text.old) }
     ensures end_bound { (end ≤ result + 20) × (result ≤ end) }
@@ -48,15 +53,16 @@ fn put_line(text: &mut [u8], end: usize, r: Rec) -> usize
     ensures text_after { drop result text.new ≡ line_of r (drop end text.old) }
 {
     let long_at = put_field(text, end, r.long, b'\n');
-    let word_at = put_field(text, long_at, r.word as u64, b' ');
-    let half_at = put_field(text, word_at, r.half as u64, b' ');
-    let sub_at = put_field(text, half_at, r.sub as u64, b' ');
-    put_field(text, sub_at, r.kind as u64, b' ')
+    let word_at = put_field(text, long_at, u64::from(r.word), b' ');
+    let half_at = put_field(text, word_at, u64::from(r.half), b' ');
+    let sub_at = put_field(text, half_at, u64::from(r.sub), b' ');
+    put_field(text, sub_at, u64::from(r.kind), b' ')
 }
 
-// Puts the lines of at most 128 records at the end of text, the last line first, and answers where they begin.
-fn put_lines(text: &mut [u8], part: &[u8]) -> usize
-    requires { (length (records_of part.now) ≤ 128) × (length text.old ≡ 13440) }
+// Puts the lines of at most 128 records at the end of text, the last line first, and answers where they begin. Records are sixteen bytes of a byte
+// buffer, so the loop goes over their places.
+fn put_lines(text: &mut [u8; 13440], part: &[u8]) -> usize
+    requires { length (records_of part.now) ≤ 128 }
     ensures upper_bound { result ≤ 13440 }
     ensures text_after { drop result text.new ≡ lines_of (records_of part.now) [] }
 {
@@ -68,8 +74,8 @@ fn put_lines(text: &mut [u8], part: &[u8]) -> usize
 }
 
 // The lines are bytes that are proved equal to a definition, so they are written as they are.
-fn print_lines(text: &mut [u8], part: &[u8])
-    requires { (length (records_of part.now) ≤ 128) × (length text.old ≡ 13440) }
+fn print_lines(text: &mut [u8; 13440], part: &[u8])
+    requires { length (records_of part.now) ≤ 128 }
 {
     let at = put_lines(text, part);
     io::write_all(1, &text[at..]);
@@ -83,7 +89,7 @@ fn print_part(part: &[u8])
     print_lines(&mut text, part);
 }
 
-// Prints n records of an index.
+// Prints n records of an index. The loop goes over places: there is no slice of records.
 fn print_records(index: &[u8], n: usize)
     requires { n ≤ length (records_of index.now) }
 {
@@ -107,7 +113,7 @@ pub fn print_numbered(text: &[u8], n: u64) {
 
 // Prints the line of a refusal.
 pub fn print_refusal(e: Refusal) {
-    print_numbered(b"refused ", u64::from(e.number()));
+    print_numbered(b"refused ", u64::from(u32::from(e)));
 }
 
 // Prints an answer, with the index that was left.

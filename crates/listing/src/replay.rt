@@ -1,5 +1,5 @@
 // The inputs that a program replays, one after the other on standard input: for each a record 246, whose word is the number of its bytes,
-// then the bytes, filled up with zeros to whole records.
+// then the bytes, filled up with zeros to whole records. The word is made usize by `as`: From makes none.
 ghost use Rattle.std.specs.Prelude.{◌≤◌, length};
 ghost use Rattle.listing.specs.Replay.{Within};
 
@@ -27,7 +27,7 @@ fn next_input(buffer: &mut [u8], number: u64) -> Option<usize>
     let first = read_head(&mut head);
     let len = first.word as usize;
     let whole = len.div_ceil(16) * 16;
-    if first.kind != Part::Input as u8 {
+    if first.kind != u8::from(Part::Input) {
         return None;
     }
     if buffer.len() < whole {

@@ -1,7 +1,7 @@
 -- The fault is the first: what `fault_of` gives says what specs/First tells of it. Holds for any class function. Assumes nothing.
 use Prim.Native.Nat.{ℕ, zero, suc, ◌+◌, ◌≤◌, ◌<◌}
 use mathlib.Core.Path.{◌≡◌, refl, sym, ap, ◌∙◌, subst}
-use mathlib.Core.Bool.{Bool, true, false, cond, ◌||◌, false≢true}
+use mathlib.Core.Bool.{Bool, true, false, cond}
 use mathlib.Core.List.{List, [], ◌∷◌}
 use mathlib.Core.Logic.{◌⊎◌, inl, inr}
 use native.Mathlib.Nat.{le_of_suc-le-suc, not-suc-le-zero}
@@ -25,40 +25,14 @@ use Rattle.indexing_iter.specs.Keys.{key_in, is_open}
 use Rattle.indexing_iter.specs.Clauses.{end_of, clauses_of}
 use Rattle.indexing_iter.specs.Checks.{otherwise, refuse, is_body, has_body, record_bad, register_bad, register_step, check_records, check_clause, check_clauses, open_somewhere}
 use Rattle.indexing_iter.specs.Faults.{first_at, is_refused, refused_at, open_at, body_at, record_for, clause_for, bare, fault_at, fault_by, fault_in, check_with, fault_of}
-use Rattle.indexing_iter.proofs.CheckLaws.{end_below, rising-drop}
+use Rattle.indexing_iter.proofs.CheckLaws.{start_below, end_below, rising-drop}
 use Rattle.indexing_iter.proofs.Numbers.{Within, records-number, clause-number}
 use Rattle.locate.specs.Inner.{check_front}
 use Rattle.locate.specs.First.{FirstRefused, FirstOpen, LastOf, FirstBad, FirstBody, FirstAtFault, NoneOrFirst}
-use Rattle.locate.proofs.LocateLaws.{bad_from, bad_step, bad-cons, bad-whole, front-number, front-passed, in_order, length-clauses, clause-is, clause-some}
+use Rattle.indexing_iter.proofs.FaultLaws.{first_some, body-some, open-some, bad_from, bad_step, bad-cons, bad-whole, length-clauses, clause-is}
+use Rattle.locate.proofs.LocateLaws.{front-number, front-passed, in_order}
 
--- ---- the first item that passes a test: none before it does
-
-some_of : {A : Type 0} → (A → Bool) → List A → Bool
-some_of t [] = false
-some_of t (x ∷ xs) = t x || some_of t xs
-
-first_some : {A : Type 0} (t : A → Bool) (xs : List A) (d : A) → some_of t xs ≡ true
-    → (first_at t xs < length xs) × (some_of t (take (first_at t xs) xs) ≡ false) × (t (get_or xs (first_at t xs) d) ≡ true)
-unfolding first_at some_of
-first_some t [] d e = absurd (false≢true e)
-first_some {A} t (x ∷ xs) d e = go (t x) refl e (first_some t xs d)
-  where
-    go : (b : Bool) → t x ≡ b → (b || some_of t xs) ≡ true
-        → (some_of t xs ≡ true → (first_at t xs < length xs) × (some_of t (take (first_at t xs) xs) ≡ false) × (t (get_or xs (first_at t xs) d) ≡ true))
-        → (cond b 0 (suc (first_at t xs)) < suc (length xs)) × (some_of t (take (cond b 0 (suc (first_at t xs))) (x ∷ xs)) ≡ false)
-        × (t (get_or (x ∷ xs) (cond b 0 (suc (first_at t xs))) d) ≡ true)
-    go true q h f = (omega arith, refl, q)
-    go false q h f = let later = f h in (omega (arith, later.0), rw q later.1, later.2)
-
-body-some : (cls : ℕ → ℕ) (rs : List Rec) → some_of (λ r. is_body (instruction_arg cls r)) rs ≡ has_body cls rs
-unfolding some_of has_body
-body-some cls [] = refl
-body-some cls (r ∷ rs) = ap (λ (b : Bool). is_body (instruction_arg cls r) || b) (body-some cls rs)
-
-open-some : (cls : ℕ → ℕ) (c : ℕ) (cs : List (List Rec)) → some_of (λ rs. is_open (key_in cls rs c)) cs ≡ open_somewhere cls c cs
-unfolding some_of open_somewhere
-open-some cls c [] = refl
-open-some cls c (rs ∷ cs) = ap (λ (b : Bool). is_open (key_in cls rs c) || b) (open-some cls c cs)
+-- ---- the first body record, and the first clause with no key
 
 first_body : (cls : ℕ → ℕ) (rs : List Rec) → has_body cls rs ≡ true → FirstBody cls rs (body_at cls rs)
 first_body cls rs e =
@@ -234,7 +208,7 @@ module _ (cls : ℕ → ℕ) (arity c : ℕ) (code starts : List ℕ) where
       let here : k < length starts = omega (arith, length-clauses rs starts) in
       let end : ℕ = end_of (length rs) (drop (k + 1) starts) in
       let within : end ≤ length rs = end_below (length rs) (drop (k + 1) starts) (rising-drop (length rs) starts (k + 1) rising) in
-      let some = clause-some (length rs) (length rs) starts k end rising here refl refl in
+      let some = start_below (length rs) starts k rising here in
       rw (clause-is rs starts (length rs) k end here refl refl) (omega (arith, some, length-slice (get_or starts k 0) end rs within))
 
   -- 6 and 7 of a clause

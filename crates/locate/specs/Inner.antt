@@ -1,12 +1,9 @@
--- The checks in the order in which `locate` makes them, and what is told of a clause. For contracts of inner functions; proofs/LocateLaws ties them to
--- indexing_iter/specs/Faults.
+-- The checks in the order in which `locate` makes them. For contracts of inner functions; proofs/LocateLaws ties them to indexing_iter/specs/Faults.
 -- Assumes nothing.
-use Rattle.std.specs.Prelude.{ℕ, ◌/◌, cond, List, eqb, length, Option, None, Some, Ok, Err}
+use Rattle.std.specs.Prelude.{ℕ, ◌/◌, cond, List, eqb, length}
 use Rattle.records.specs.declared.Rec.{Rec}
-use Rattle.indexing_iter.specs.declared.Fault.{Fault}
 use Rattle.indexing_iter.specs.Refusals.{Checked, passed}
 use Rattle.indexing_iter.specs.Checks.{otherwise, check_arity, check_chosen, check_size, check_starts, check_clauses, check_keyed}
-use Rattle.indexing_iter.specs.Faults.{fault_at}
 
 -- 1 and, with c, 2
 abbrev pub check_chosen_with : ℕ → ℕ → Checked
@@ -19,8 +16,3 @@ check_front arity c code starts = otherwise (check_chosen_with arity c) (otherwi
 -- 5 to 7 and, with c, 8
 abbrev pub check_back : (ℕ → ℕ) → ℕ → ℕ → List (List Rec) → Checked
 check_back cls arity c cs = otherwise (check_clauses cls arity cs) (cond (eqb c 0) passed (check_keyed cls c cs))
-
--- the fault of a check's answer that is of clause k, none where it passed
-abbrev pub at_clause : (ℕ → ℕ) → ℕ → List Rec → List ℕ → ℕ → Checked → Option Fault
-at_clause cls arity rs starts k (Ok u) = None
-at_clause cls arity rs starts k (Err e) = Some (fault_at cls arity rs starts e k)

@@ -1,8 +1,9 @@
 -- The face for C and Rust: settings from numbers, and each outcome's numbers in the order in which they stand in the lent array.
 -- Assumes nothing.
-use Rattle.std.specs.Prelude.{◌≡◌, ℕ, ◌-◌, ◌/◌, ◌%◌, Bool, List, [], ◌∷◌, ◌++◌, eqb, length, take, drop, replicate, Option, None, Some, Result, Ok, Err}
+use Rattle.std.specs.Prelude.{◌≡◌, ℕ, ◌-◌, Bool, List, [], ◌∷◌, ◌++◌, length, take, drop, replicate, Option, None, Some, Result, Ok, Err}
 use Rattle.indexing_iter.specs.declared.Settings.{Settings}
 use Rattle.indexing_iter.specs.declared.refusal.Refusal.{Refusal}
+use Rattle.indexing_iter.specs.Flags.{flag_in, settings_by_flags}
 use Rattle.indexing_iter.specs.Refusals.{Checked, refusal_number}
 use Rattle.indexing_iter.specs.declared.Fault.{Fault}
 use Rattle.indexing.specs.Builder.{Built, Sized}
@@ -11,12 +12,11 @@ use Rattle.indexing_scan.specs.Witness.{Witnessed, number_in, offset_in, Witness
 
 -- the flag whose value is k
 abbrev pub flag_of : ℕ → ℕ → Bool
-flag_of flags k = eqb (flags / k % 2) 1
+flag_of = flag_in
 
 -- flags 1 dynamic, 2 extensible, 4 non-counted, 8 skip; others are not read
-unfoldable pub settings_by : ℕ → ℕ → ℕ → Settings
-settings_by arity mask flags =
-    record { arity = arity; mask = mask; dynamic = flag_of flags 1; extensible = flag_of flags 2; non_counted = flag_of flags 4; skip = flag_of flags 8 }
+abbrev pub settings_by : ℕ → ℕ → ℕ → Settings
+settings_by = settings_by_flags
 
 -- an array with values at its first places, as many as it has; its other places as they were
 unfoldable pub laid : List ℕ → List ℕ → List ℕ

@@ -1,8 +1,11 @@
 // The face for programs in C and Rust: builder, size, fault, walk and witness over slices and numbers, with the results as numbers in a lent array.
 // include/podrulka.h declares the functions and says what each number means.
+// In podrulka_build, podrulka_size, podrulka_locate, podrulka_walk and podrulka_witness code, starts, arity, mask, flags, c and buffers stand one by one,
+// an index with its record count beside it, a result as numbers: the C interface.
+// A usize is made a u64, and an enum its number, by `as`: From makes neither.
 #![tactic(auto)]
 
-ghost use Rattle.std.specs.Prelude.{◌≡◌, [], ◌∷◌, ◌<◌, ◌≤◌};
+ghost use Rattle.std.specs.Prelude.{◌≡◌, [], ◌∷◌, ◌≤◌};
 ghost use Rattle.indexing_iter.specs.Refusals.{number_of};
 ghost use Rattle.indexing_iter.specs.Classes.{class_of};
 ghost use Rattle.indexing_iter.specs.Faults.{fault_of};
@@ -10,34 +13,12 @@ ghost use Rattle.indexing.specs.Builder.{build_call, size_call};
 ghost use Rattle.indexing_scan.specs.Calls.{walk_call, witness_checks, agreeing};
 ghost use Rattle.indexing_scan.specs.Witness.{found_in};
 ghost use Rattle.indexing_walk.specs.Answers.{told_by};
-ghost use Rattle.podrulka.specs.Face.{flag_of, settings_by, laid, built_numbers, sized_numbers, fault_numbers, walked_numbers, number_told, numbers_told, Found};
+ghost use Rattle.podrulka.specs.Face.{settings_by, laid, built_numbers, sized_numbers, fault_numbers, walked_numbers, number_told, numbers_told, Found};
 
 use indexing_builder::Built;
 use indexing_iter::refusal::Refusal;
 use indexing_iter::{Fault, Settings};
 use indexing_walk::Ended;
-
-// The flag whose value is k.
-fn flag(flags: u32, k: u32) -> bool
-    requires { 0 < k }
-    ensures { result ≡ flag_of flags k }
-{
-    flags / k % 2 == 1
-}
-
-// Settings from numbers; flags 1 dynamic, 2 extensible, 4 non-counted, 8 skip.
-fn settings_by(arity: u32, mask: u32, flags: u32) -> Settings
-    ensures { result ≡ settings_by arity mask flags }
-{
-    Settings {
-        arity,
-        mask,
-        dynamic: flag(flags, 1),
-        extensible: flag(flags, 2),
-        non_counted: flag(flags, 4),
-        skip: flag(flags, 8),
-    }
-}
 
 // Writes values to the first places of res, as many as it has.
 fn lay(values: &[u64], res: &mut [u64])
@@ -59,9 +40,9 @@ fn lay_answer<const N: usize>(answer: Result<[u64; N], Refusal>, res: &mut [u64]
             0
         }
         Err(e) => {
-            let number = e.number();
+            let number = u32::from(e);
             let mut values = [0; N];
-            values[0] = number as u64;
+            values[0] = u64::from(number);
             lay(&values, res);
             number
         }
@@ -72,7 +53,7 @@ fn lay_answer<const N: usize>(answer: Result<[u64; N], Refusal>, res: &mut [u64]
 fn built_values(b: Built) -> [u64; 3]
     ensures { result ≡ 0 ∷ b.count ∷ b.variable ∷ [] }
 {
-    [0, b.count as u64, b.variable as u64]
+    [0, b.count as u64, u64::from(b.variable)]
 }
 
 // The value of the size's answer.
@@ -97,9 +78,9 @@ fn walked_values(e: Ended) -> [u64; 7]
     [
         0,
         e.case as u64,
-        e.line as u64,
+        u64::from(e.line),
         e.count as u64,
-        e.tables as u64,
+        u64::from(e.tables),
         mark,
         e.records as u64,
     ]
@@ -110,7 +91,11 @@ fn fault_values(fault: Option<Fault>) -> [u64; 3]
     ensures { result ≡ fault_numbers fault }
 {
     match fault {
-        Some(f) => [f.refusal.number() as u64, f.clause as u64, f.at as u64],
+        Some(f) => [
+            u64::from(u32::from(f.refusal)),
+            f.clause as u64,
+            f.at as u64,
+        ],
         None => [0; 3],
     }
 }
@@ -131,7 +116,7 @@ pub extern "C" fn podrulka_build(
     ensures index_after { index.new ≡ (build_call class_of code.now starts.now (settings_by arity mask flags) c index.old).index }
     ensures res_after { res.new ≡ laid (built_numbers (build_call class_of code.now starts.now (settings_by arity mask flags) c index.old)) res.old }
 {
-    let settings = settings_by(arity, mask, flags);
+    let settings = Settings::from_flags(arity, mask, flags);
     let a = indexing_builder::compute_indices(code, starts, settings, c, index);
     lay_answer(a.map(built_values), res)
 }
@@ -150,7 +135,7 @@ pub extern "C" fn podrulka_size(
     ensures value { result ≡ (size_call class_of code.now starts.now (settings_by arity mask flags) c).number }
     ensures res_after { res.new ≡ laid (sized_numbers (size_call class_of code.now starts.now (settings_by arity mask flags) c)) res.old }
 {
-    let settings = settings_by(arity, mask, flags);
+    let settings = Settings::from_flags(arity, mask, flags);
     let a = index_size::index_size(code, starts, settings, c);
     lay_answer(a.map(sized_values), res)
 }
@@ -195,7 +180,7 @@ pub extern "C" fn podrulka_walk(
     ensures out_after { out.new ≡ (walk_call class_of code.now starts.now (settings_by arity mask flags) call.now index.old count out.old).out }
     ensures res_after { res.new ≡ laid (walked_numbers (walk_call class_of code.now starts.now (settings_by arity mask flags) call.now index.old count out.old)) res.old }
 {
-    let settings = settings_by(arity, mask, flags);
+    let settings = Settings::from_flags(arity, mask, flags);
     let a = indexing_walk::switch_on_term(code, starts, settings, call, index, count, out);
     lay_answer(a.map(walked_values), res)
 }
@@ -215,7 +200,7 @@ pub extern "C" fn podrulka_witness(
     ensures found { Found (witness_checks class_of code.now starts.now (settings_by arity mask flags) call.now)
         (agreeing class_of code.now starts.now (settings_by arity mask flags) call.now) res.old res.new }
 {
-    let settings = settings_by(arity, mask, flags);
+    let settings = Settings::from_flags(arity, mask, flags);
     let a = indexing_scan::witness::witness(code, starts, settings, call);
     lay_answer(a.map(found_values), res)
 }

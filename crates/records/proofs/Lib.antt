@@ -9,3 +9,4 @@ pub mod PartLaws
 pub mod PointerLaws
 pub mod Whole
 pub mod Run
+pub mod Words

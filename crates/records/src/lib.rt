@@ -1,8 +1,9 @@
 // Records of sixteen bytes in a lent byte buffer, the index or the code. Nothing above this crate sees a byte: readers
 // and writers are stated over `records_of`.
+// record_in, move_up, open_gap, part are public; an index stands in front in a lent buffer with room for growth (fixed memory), so its number goes beside.
 #![tactic(auto)]
 
-ghost use Rattle.std.specs.Prelude.{◌≡◌, ◌+◌, ◌≤◌, ◌<◌, length, take, set, get_or};
+ghost use Rattle.std.specs.Prelude.{◌≡◌, ◌+◌, ◌-◌, ◌≤◌, ◌<◌, length, take, set, get_or, map};
 ghost use Rattle.std.proofs.Math.Seq.{slice};
 ghost use Rattle.records.specs.Records.{decode, encode_rec, records_of, zero_rec, Wrote};
 ghost use Rattle.records.specs.Moves.{written, moved, gapped};
@@ -88,6 +89,16 @@ pub fn record_in(index: &[u8], n: usize, p: usize) -> Rec
     zeros()
 }
 
+// Reads the words of the records from a place on, as many as words has places.
+pub fn read_words(index: &[u8], from: usize, words: &mut [u32])
+    requires { length words.old ≤ length (records_of index.now) - from }
+    ensures { words.new ≡ map (λ r. r.word) (slice from (from + length words.old) (records_of index.now)) }
+{
+    for (i, word) in words.iter_mut().enumerate() {
+        *word = get(index, from + i).word;
+    }
+}
+
 // Writes a record at a place of the buffer.
 pub fn put(index: &mut [u8], at: usize, r: Rec)
     requires { at < length (records_of index.old) }
@@ -99,6 +110,7 @@ pub fn put(index: &mut [u8], at: usize, r: Rec)
 }
 
 // Writes all whole records of run, from a place of the index on.
+// Nobody calls it: it is kept as it was public, in its form, as the must-fail edit run_source names the turn of its loop, and a copy of bytes has no turns.
 pub fn put_run(index: &mut [u8], at: usize, run: &[u8])
     requires { at + length (records_of run.now) ≤ length (records_of index.old) }
     ensures { Wrote index.old index.new (written (records_of index.old) at (records_of run.now)) }

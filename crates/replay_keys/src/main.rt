@@ -1,9 +1,11 @@
 // Replays code inputs: prints the numbers that the checks give for each, and the keys of every clause of accepted code.
 // tools/replay_keys.py describes the input and makes it, with the expected output.
+// Numbers are made usize, and a usize u32 or u64, by `as`: From makes none.
+// The name, number, arity, c, code and starts of show and show_case are what the program prints of one case: they stand one by one, as no other function
+// takes them.
 #![tactic(auto)]
 
-ghost use Rattle.std.specs.Prelude.{◌≡◌, true, ◌+◌, ◌*◌, ◌≤◌, length};
-ghost use Rattle.records.specs.Records.{records_of};
+ghost use Rattle.std.specs.Prelude.{◌≡◌, true, ◌*◌, ◌≤◌, length};
 ghost use Rattle.indexing_iter.specs.Clauses.{known};
 
 use indexing_iter::program::Program;
@@ -11,11 +13,11 @@ use indexing_iter::refusal::Refusal;
 use indexing_iter::{Settings, checks};
 use records::Rec;
 
-// The number of a check's answer, 0 where it passed.
+// The number of a check's answer, 0 where it passed: the program prints it.
 fn number_of<T>(answer: &Result<T, Refusal>) -> u64 {
     match answer {
         Ok(_) => 0,
-        Err(refusal) => u64::from(refusal.number()),
+        Err(refusal) => u64::from(u32::from(*refusal)),
     }
 }
 
@@ -43,6 +45,7 @@ fn show_keys(heads: &[u32], bits: &[u64]) {
     io::write_all(1, b"\n");
 }
 
+// A head is printed in its two parts, the upper and the lower sixteen bits.
 fn show_key(head: u32, bits: u64) {
     print(b" ", u64::from(head / 65536));
     print(b",", u64::from(head % 65536));
@@ -55,17 +58,6 @@ fn show_clauses(program: &Program) {
     }
 }
 
-fn settings_of(arity: u32) -> Settings {
-    Settings {
-        arity,
-        mask: 0,
-        dynamic: false,
-        extensible: false,
-        non_counted: false,
-        skip: false,
-    }
-}
-
 // The line of one case; accepted code is given back as a program.
 fn show<'a>(
     name: &[u8],
@@ -75,7 +67,8 @@ fn show<'a>(
     code: &'a [u8],
     starts: &'a [u32],
 ) -> Option<Program<'a>> {
-    let checked = Program::check(code, starts, settings_of(arity));
+    let settings = Settings::from_flags(arity, 0, 0);
+    let checked = Program::check(code, starts, settings);
     let built = checks::check_build(code, starts, arity, c);
     print(name, n);
     print(b" code ", number_of(&checked));
@@ -84,111 +77,99 @@ fn show<'a>(
     checked.ok()
 }
 
-// The words of as many records as starts holds, from a place on.
-fn read_starts(input: &[u8], at: usize, starts: &mut [u32])
-    requires { at + length starts.old ≤ length (records_of input.now) }
-{
-    for (i, start) in starts.iter_mut().enumerate() {
-        *start = records::get(input, at + i).word;
-    }
-}
-
-// Shows a case: the starts from a place on, then len bytes of code.
-fn show_case(input: &[u8], at: usize, len: usize, n: u64, arity: u32, c: u64, starts: &mut [u32])
-    requires starts_in_bounds { at + length starts.old ≤ length (records_of input.now) }
-    requires len_in_bounds { 16 * (at + length starts.old) + len ≤ length input.now }
-{
-    let from = 16 * (at + starts.len());
-    let to = from + len;
-    read_starts(input, at, starts);
-    if let Some(program) = show(b"case ", n, arity, c, &input[from..to], starts) {
+// Shows a case, and the keys of accepted code.
+fn show_case(n: u64, arity: u32, c: u64, code: &[u8], starts: &[u32]) {
+    if let Some(program) = show(b"case ", n, arity, c, code, starts) {
         show_clauses(&program);
     }
 }
 
-// Runs the case with the first record of its header, and answers the place after it, none where it is too large or not whole.
-fn run_header(
-    input: &[u8],
-    at: usize,
+// Runs the case of a header, its starts and then len bytes of code at the front of rest, and answers what follows it, none where it is too large
+// or not whole.
+fn run_header<'a>(
+    rest: &'a [u8],
     n: u64,
-    first: Rec,
+    header: Rec,
     len: usize,
     space: &mut [u32],
-) -> Option<usize>
-    requires { at ≤ length (records_of input.now) }
-{
-    let k = first.word as usize;
+) -> Option<&'a [u8]> {
+    let k = header.word as usize;
     if space.len() < k || 262144 < len {
         return None;
     }
     let size = len.div_ceil(16);
-    let after = at + k + size;
-    if records::capacity(input) < after {
+    let end = records::capacity(rest);
+    if end < k + size {
         return None;
     }
-    let arity = u32::from(first.half);
-    show_case(input, at, len, n, arity, first.long, &mut space[..k]);
-    Some(after)
+    let starts = &mut space[..k];
+    records::read_words(rest, 0, starts);
+    let from = 16 * k;
+    let arity = u32::from(header.half);
+    show_case(n, arity, header.long, &rest[from..from + len], starts);
+    Some(records::part(rest, k + size, end))
 }
 
-// Runs the case that begins at a place, and answers the place after it, none where no whole case is left.
-fn run_case(input: &[u8], at: usize, n: u64) -> Option<usize> {
-    if records::capacity(input).saturating_sub(at) < 2 {
+// Runs the case at the front of an input, and answers what follows it, none where no whole case is left.
+fn run_case(input: &[u8], n: u64) -> Option<&[u8]> {
+    let count = records::capacity(input);
+    if count < 2 {
         return None;
     }
-    let first = records::get(input, at);
-    let second = records::get(input, at + 1);
+    let rest = records::part(input, 2, count);
+    let first = records::get(input, 0);
+    let second = records::get(input, 1);
     let mut space = [0u32; 1100];
-    run_header(input, at + 2, n, first, second.word as usize, &mut space)
+    run_header(rest, n, first, second.word as usize, &mut space)
 }
 
 fn run_cases(input: &[u8]) {
-    let mut at = 0;
+    let mut rest = input;
     for n in 0..100000 {
-        let Some(after) = run_case(input, at, n) else {
+        let Some(after) = run_case(rest, n) else {
             return;
         };
-        at = after;
+        rest = after;
     }
 }
 
-// One clause of n records: GetList in register 1, prologue records, a body record. The bytes are 0 before.
-fn show_records(code: &mut [u8], n: usize)
-    requires le_n { (2 ≤ n) × (n ≤ 32769) }
-    requires code_len { length code.old ≡ 524304 }
+// One clause of all the records of code: GetList in register 1, prologue records, a body record. The bytes are 0 before.
+fn show_records(code: &mut [u8])
+    requires { 32 ≤ length code.old }
 {
+    let n = code.len() / 16;
+    let last = code.len() - 16;
     code[0] = 17;
     code[4] = 1;
-    code[16 * (n - 1)] = 64;
+    code[last] = 64;
     let starts = [0u32];
-    show(b"records ", n as u64, 1, 1, &code[..16 * n], &starts);
+    show(b"records ", n as u64, 1, 1, code, &starts);
 }
 
 fn run_records(n: usize)
     requires { (2 ≤ n) × (n ≤ 32769) }
 {
     let mut code = [0u8; 524304];
-    show_records(&mut code, n);
+    show_records(&mut code[..16 * n]);
 }
 
 fn set_bodies(code: &mut [u8], starts: &mut [u32])
     requires starts_in_bounds { 16 * length starts.old ≤ length code.old }
     requires starts_len_bound { length starts.old ≤ 1025 }
 {
-    for i in 0..starts.len() {
+    for (i, start) in starts.iter_mut().enumerate() {
         code[16 * i] = 64;
-        starts[i] = i as u32;
+        *start = i as u32;
     }
 }
 
-// n clauses of one body record each.
-fn show_starts(code: &mut [u8], starts: &mut [u32], n: usize)
+// A clause of one body record for each start.
+fn show_starts(code: &mut [u8], starts: &mut [u32])
     requires starts_in_bounds { 16 * length starts.old ≤ length code.old }
-    requires n_in_bounds { (n ≤ length starts.old) × (length starts.old ≤ 1025) }
+    requires starts_len_bound { length starts.old ≤ 1025 }
 {
     set_bodies(code, starts);
-    let end = 16 * n;
-    show(b"starts ", n as u64, 1, 1, &code[..end], &starts[..n]);
+    show(b"starts ", starts.len() as u64, 1, 1, code, starts);
 }
 
 fn run_starts(n: usize)
@@ -196,7 +177,7 @@ fn run_starts(n: usize)
 {
     let mut code = [0u8; 16400];
     let mut starts = [0u32; 1025];
-    show_starts(&mut code, &mut starts, n);
+    show_starts(&mut code[..16 * n], &mut starts[..n]);
 }
 
 fn main() {

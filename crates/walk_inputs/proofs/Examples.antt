@@ -1,12 +1,14 @@
 -- Computed examples of plans, calls, index and code of an input. They pin the definitions: an edit of Plan or Run that reads another field, takes
 -- a missing record or cuts elsewhere makes `planned` or `cut` false. Assumes nothing.
 use Prim.Native.Nat.{ℕ}
-use mathlib.Core.Bool.{Bool, cond, ◌&&◌}
+use mathlib.Core.Bool.{Bool, ◌&&◌}
 use mathlib.Core.List.{List, [], ◌∷◌, ◌++◌}
 use lib.Dec.{T, eqb}
+use Rattle.std.specs.Prelude.{Option, None, Some}
 use Rattle.records.specs.declared.Rec.{Rec}
 use Rattle.records.specs.Records.{rec_of, decode, encode_rec, encode, recs, records_of}
 use Rattle.indexing.proofs.Sample.{alike, all}
+use Rattle.indexing_iter.specs.Flags.{settings_by_flags}
 use Rattle.inputs.specs.Input.{settings_of, starts_in}
 use Rattle.walk_inputs.specs.declared.Plan.{Plan}
 use Rattle.walk_inputs.specs.Plan.{starts_of, record_of, planned_by, plan_of, step_of}
@@ -30,8 +32,12 @@ record Case : Type 0 where
   records : List Rec
   plan : List ℕ
 
+abbrev handed_told : Option ℕ → List ℕ
+handed_told None = 0 ∷ 0 ∷ []
+handed_told (Some count) = 1 ∷ count ∷ []
+
 abbrev told : Plan → List ℕ
-told p = p.starts ∷ p.out ∷ p.capacity ∷ cond p.handed 1 0 ∷ p.count ∷ p.place ∷ p.calls ∷ p.index ∷ []
+told p = p.starts ∷ p.out ∷ p.capacity ∷ (handed_told p.handed ++ (p.place ∷ p.calls ∷ p.index ∷ []))
 
 abbrev tells : Case → Bool
 tells x = alike (told (plan_of (input x.records))) x.plan
@@ -70,5 +76,5 @@ parts =
     && (alike (start_index (run 3)) (encode (b ∷ b ∷ []) ++ zeros) && (alike (start_index (run 1)) (encode (b ∷ [])) && alike (code_of (run 3)) (encode (c ∷ []) ++ (5 ∷ [])))))))
 
 pub cut : T parts
-unfolding decode encode_rec encode recs records_of settings_of starts_in starts_of record_of planned_by plan_of step_of calls_of call_part start_index code_of
+unfolding decode encode_rec encode recs records_of settings_by_flags settings_of starts_in starts_of record_of planned_by plan_of step_of calls_of call_part start_index code_of
 cut = tt

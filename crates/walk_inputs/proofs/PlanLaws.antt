@@ -1,10 +1,13 @@
 -- The plan of an input: its records where they stand, and its bounds. Assumes nothing.
-use mathlib.Core.Path.{◌≡◌, refl, ap, ◌∙◌}
-use Prim.Native.Nat.{ℕ, ◌+◌, ◌-◌, ◌≤◌, min}
+use mathlib.Core.Path.{◌≡◌, refl, sym, ap, ◌∙◌}
+use Prim.Native.Nat.{ℕ, zero, suc, ◌+◌, ◌-◌, ◌≤◌, min, max}
+use Rattle.std.proofs.Math.Nat.{suc-ne-zero}
 use native.Mathlib.Omega.{arith}
 use mathlib.Core.Bool.{Bool, true, false, cond}
 use mathlib.Core.List.{List}
 use lib.Dec.{eqb}
+use Rattle.std.specs.Prelude.{Option}
+use Rattle.std.specs.Bool.{then_some}
 use borrow.Author.Tests.{eq-eqb, ne_eqb}
 use lib.ListN.{length, get_or, take, drop}
 use lib.Seq.{take-length}
@@ -30,6 +33,13 @@ module _ (rs : List Rec) (n at : ℕ) (r : Rec) (e : n ≡ length rs) (f : r ≡
   unfolding record_of
   record-missing kind q = rw (← at_place, ne_eqb r.kind kind q) refl
 
+-- the arity, and at least one
+pub step-max : (a : ℕ) → max a 1 ≡ cond (eqb a 0) 1 a
+step-max zero = refl
+step-max (suc a) =
+    let m : max (suc a) 1 ≡ suc a = omega arith in
+    m ∙ sym (ap (λ (b : Bool). cond b 1 (suc a)) (ne_eqb (suc a) 0 (suc-ne-zero a)))
+
 pub place-most : (r : Rec) → place_of r ≤ 1
 place-most r = go (eqb r.kind 0)
   where
@@ -38,9 +48,9 @@ place-most r = go (eqb r.kind 0)
     go false = omega arith
 
 -- the fields of a plan, worked out one after the other
-pub planned-as : (n k a b l c m i e : ℕ) (h : Bool) (r g : Rec) → a ≡ place_of r → b ≡ place_of g → l ≡ n - (1 + k + a + b) → c ≡ min r.word l
-    → m ≡ n - (1 + k + a + b + c) → i ≡ min g.word m → e ≡ min r.long 65535 → h ≡ bit r.sub 1
-    → ◌≡◌ {A = Plan} (record { starts = k; out = r.half; capacity = e; handed = h; count = g.long; place = 1 + k + a + b; calls = c; index = i }) (planned_by n k r g)
+pub planned-as : (n k a b l c m i e : ℕ) (h : Option ℕ) (r g : Rec) → a ≡ place_of r → b ≡ place_of g → l ≡ n - (1 + k + a + b) → c ≡ min r.word l
+    → m ≡ n - (1 + k + a + b + c) → i ≡ min g.word m → e ≡ min r.long 65535 → h ≡ then_some (bit r.sub 1) g.long
+    → ◌≡◌ {A = Plan} (record { starts = k; out = r.half; capacity = e; handed = h; place = 1 + k + a + b; calls = c; index = i }) (planned_by n k r g)
 unfolding planned_by
 planned-as n k a b l c m i e h r g pa pb pl pc pm pi pe ph = rw (pi, pm, pc, pl, pa, pb, pe, ph) refl
 

@@ -1,6 +1,7 @@
 -- The input of the program walks, as records: 240 settings, 241 starts, 242 and 243 the plan, then calls, index records and code.
 -- Assumes nothing.
 use Rattle.std.specs.Prelude.{ℕ, ◌+◌, ◌-◌, ◌*◌, min, Bool, true, false, cond, List, eqb, ltb, length, get_or, take, drop}
+use Rattle.std.specs.Bool.{then_some}
 use Rattle.records.specs.declared.Rec.{Rec}
 use Rattle.records.specs.Records.{records_of, zero_rec}
 use Rattle.inputs.specs.Input.{bit, settings_of, starts_in}
@@ -37,8 +38,7 @@ planned_by n k r g =
       starts = k;
       out = r.half;
       capacity = min r.long 65535;
-      handed = bit r.sub 1;
-      count = g.long;
+      handed = then_some (bit r.sub 1) g.long;
       place = at;
       calls = calls;
       index = min g.word (n - (at + calls));

@@ -1,6 +1,7 @@
 -- The run of the program walks: the index and out before the first call, and each call's walk, on the parts of an input.
 -- Assumes nothing.
-use Rattle.std.specs.Prelude.{◌≡◌, ℕ, ◌+◌, ◌-◌, ◌*◌, ◌/◌, min, Bool, true, false, cond, List, ◌++◌, length, take, drop, replicate, Result, Ok, Err}
+use Rattle.std.specs.Prelude.{◌≡◌, ℕ, ◌+◌, ◌-◌, ◌*◌, min, Bool, true, false, List, ◌++◌, length, take, drop, replicate, Option, None, Some, Result, Ok, Err}
+use Rattle.std.specs.Int.{div_ceil}
 use Rattle.indexing_iter.specs.Classes.{class_of}
 use Rattle.indexing_iter.specs.declared.refusal.Refusal.{Refusal}
 use Rattle.indexing_iter.specs.Refusals.{refusal_number}
@@ -20,7 +21,7 @@ code_of input = let p = plan_of input in drop (16 * (p.place + p.calls + p.index
 
 -- calls are cut every step records; the last one may be short
 unfoldable pub calls_of : List ℕ → ℕ
-calls_of input = ((plan_of input).calls + (step_of input - 1)) / step_of input
+calls_of input = div_ceil (plan_of input).calls (step_of input)
 
 -- call number i, counted from 0
 unfoldable pub call_part : List ℕ → ℕ → List ℕ
@@ -52,14 +53,17 @@ build_of input index = build_call class_of (code_of input) (starts_of input) (se
 abbrev pub opened_built : Built → List ℕ → Opened
 opened_built b out = record { number = b.number; handed = false; count = b.count; variable = b.variable; index = b.index; out = out }
 
+-- an index of so many records is given, or one is built
+abbrev pub opened_by : Option ℕ → List ℕ → Built → List ℕ → Opened
+opened_by (Some count) index built out = record { number = 0; handed = true; count = count; variable = 0; index = index; out = out }
+opened_by None index built out = opened_built built out
+
 -- an index is given or built; out starts as zeros
 unfoldable pub open_of : List ℕ → Opened
 open_of input =
     let p = plan_of input in
     let out : List ℕ = replicate p.out 0 in
-    cond p.handed
-    (record { number = 0; handed = true; count = p.count; variable = 0; index = start_index input; out = out })
-    (opened_built (build_of input (start_index input)) out)
+    opened_by p.handed (start_index input) (build_of input (start_index input)) out
 
 -- the answer with the buffers at the end
 abbrev pub opened_of : Result Begun Refusal → List ℕ → List ℕ → Opened

@@ -1,4 +1,6 @@
 // The input of the program walks: settings, starts, a plan of the run, calls, the records of an index that is handed in, then code.
+// Numbers of records are made usize by `as`: From makes none of a u32 or a u64. An index stands with its record count and out beside it, as a walk
+// takes them. build_index, open_cut and walk_cut ask that starts has the plan's length: input and starts are two buffers, and no type joins them.
 #![tactic(auto)]
 
 mod input;
@@ -7,7 +9,9 @@ ghost use Rattle.std.specs.Prelude.{◌≡◌, ◌+◌, ◌-◌, ◌*◌, ◌≤
 ghost use Rattle.records.specs.Records.{records_of};
 ghost use Rattle.indexing_builder.specs.Answer.{built_of};
 ghost use Rattle.indexing_walk.specs.Answers.{walked_of};
+ghost use Rattle.inputs.specs.Parts.{part_kind};
 ghost use Rattle.walk_inputs.specs.Plan.{heard_of, record_of, given_of, place_of, planned_by, plan_of, step_of, part_of};
+ghost use Rattle.walk_inputs.specs.Cut.{CutCallable, CutRan};
 ghost use Rattle.walk_inputs.specs.Run.{start_index, code_of, calls_of, call_part, build_of, open_of, opened_of, opened_in, open_call, walk_of, walk_in, next_count};
 
 use indexing_builder::Built;
@@ -17,22 +21,21 @@ use input::Input;
 use inputs::part::Part;
 use records::Rec;
 
-// What an input says of its run: how many starts there are, the numbers in out, the records that the index has room for, whether an index is
-// handed in and with which record count, the place of the first call record, how many call records there are, and how many index records.
-#[derive(Clone, Copy)]
+// What an input says of its run: how many starts there are, the numbers in out, the records that the index has room for, the record count of the
+// index that is handed in, none where none is, the place of the first call record, how many call records there are, and how many index records.
+#[derive(Clone, Copy, Debug, PartialEq, Eq)]
 pub struct Plan {
     pub starts: usize,
     pub out: u16,
     pub capacity: usize,
-    pub handed: bool,
-    pub count: usize,
+    pub handed: Option<usize>,
     pub place: usize,
     pub calls: usize,
     pub index: usize,
 }
 
-// How a run begins that is not refused: an index is built, or one of so many records is given.
-#[derive(Clone, Copy)]
+// How a run begins that is not refused: an index is built, or one of so many records is given. No Option or Result: both ways begin a run.
+#[derive(Clone, Copy, Debug, PartialEq, Eq)]
 pub enum Begun {
     Built(Built),
     Given(usize),
@@ -49,13 +52,13 @@ fn heard(input: &[u8]) -> &[u8]
     input
 }
 
-// The record at a place where it is of that kind; else, and past the end, a record of zeros.
-fn record_of(input: &[u8], kind: u8, at: usize) -> Rec
-    ensures { result ≡ record_of kind (records_of input.now) at }
+// The record at a place where it is that part; else, and past the end, a record of zeros.
+fn record_of(input: &[u8], part: Part, at: usize) -> Rec
+    ensures { result ≡ record_of (part_kind part) (records_of input.now) at }
 {
     let n = records::capacity(input);
     let r = records::record_in(input, n, at);
-    if r.kind == kind {
+    if r.kind == u8::from(part) {
         return r;
     }
     records::zeros()
@@ -66,7 +69,7 @@ fn given_of(input: &[u8], handed: bool, at: usize) -> Rec
     ensures { result ≡ given_of handed (records_of input.now) at }
 {
     if handed {
-        return record_of(input, Part::Given as u8, at);
+        return record_of(input, Part::Given, at);
     }
     records::zeros()
 }
@@ -90,8 +93,7 @@ fn planned(n: usize, k: usize, r: Rec, g: Rec) -> Plan
         starts: k,
         out: r.half,
         capacity: (r.long as usize).min(65535),
-        handed: inputs::bit(r.sub, 1),
-        count: g.long as usize,
+        handed: inputs::bit(r.sub, 1).then_some(g.long as usize),
         place,
         calls,
         index,
@@ -108,7 +110,7 @@ fn plan_in(input: &[u8]) -> Plan
 {
     let n = records::capacity(input);
     let k = inputs::count_starts(input);
-    let r = record_of(input, Part::Plan as u8, 1 + k);
+    let r = record_of(input, Part::Plan, 1 + k);
     let handed = inputs::bit(r.sub, 1);
     let g = given_of(input, handed, 1 + k + place_of(r));
     planned(n, k, r, g)
@@ -119,11 +121,7 @@ fn step_of(input: &[u8]) -> usize
     ensures { (result ≡ step_of input.now) × (1 ≤ result) × (result < 4294967296) }
 {
     let settings = inputs::settings_in(inputs::first_record(input));
-    let arity = settings.arity as usize;
-    if arity == 0 {
-        return 1;
-    }
-    arity
+    (settings.arity as usize).max(1)
 }
 
 // What is read of an input.
@@ -150,7 +148,7 @@ pub fn count_calls(input: &[u8]) -> usize
     ensures { result ≡ calls_of (heard_of input.now) }
 {
     let run = read(input);
-    (run.plan.calls + (run.step - 1)) / run.step
+    run.plan.calls.div_ceil(run.step)
 }
 
 // The bytes of n records from a place on, or as many as there are.
@@ -233,23 +231,27 @@ fn open_cut(
 {
     start_index(input, index);
     out.fill(0);
-    if input.plan.handed {
-        return Ok(Begun::Given(input.plan.count));
+    match input.plan.handed {
+        Some(count) => Ok(Begun::Given(count)),
+        None => Ok(Begun::Built(build_index(input, starts, index)?)),
     }
-    let built = build_index(input, starts, index)?;
-    Ok(Begun::Built(built))
 }
 
-// The same with buffers of the largest lengths, of which it takes as much as the plan says.
-fn open_parts(input: &Input, index: &mut [u8], out: &mut [u32]) -> Result<Begun, Refusal>
-    requires { (length index.old ≡ 1048560) × (length out.old ≡ 65535) }
-    ensures { opened_of result index.new out.new ≡ opened_in input.now.plan index.old out.old (open_of input.now.bytes.now) }
+// What run does with the parts of an index buffer, of out and of starts that have the lengths of a plan.
+fn run_cut<T, F: FnOnce(&mut [u8], &mut [u32], &mut [u32]) -> T>(
+    plan: Plan,
+    index: &mut [u8; 1048560],
+    out: &mut [u32; 65535],
+    run: F,
+) -> T
+    requires plan_bounds { (plan.capacity ≤ 65535) × (plan.starts ≤ 65536) }
+    requires calls { CutCallable F.FnOnce plan run }
+    ensures { CutRan F.FnOnce plan run index.old out.old result index.new out.new }
 {
     let mut starts = [0u32; 65536];
-    let n = 16 * input.plan.capacity;
-    let m = input.plan.out as usize;
-    let k = input.plan.starts;
-    open_cut(input, &mut index[..n], &mut out[..m], &mut starts[..k])
+    let n = 16 * plan.capacity;
+    let m = usize::from(plan.out);
+    run(&mut index[..n], &mut out[..m], &mut starts[..plan.starts])
 }
 
 // How a run begins: the index and out before the first call stand at the front of the two buffers, whose rest is untouched.
@@ -260,7 +262,12 @@ pub fn open_index(
 ) -> Result<Begun, Refusal>
     ensures { opened_of result index.new out.new ≡ open_call input.now index.old out.old }
 {
-    open_parts(&read(input), index, out)
+    let input = read(input);
+    let open = |index: &mut [u8], out: &mut [u32], starts: &mut [u32]| -> Result<Begun, Refusal>
+        requires { (length index.old ≡ 16 * input.plan.capacity) × ((length out.old ≡ input.plan.out) × (length starts.old ≡ input.plan.starts)) }
+        ensures { opened_of result index.new out.new ≡ open_of input.entry.bytes.now }
+    { open_cut(&input, index, out, starts) };
+    run_cut(input.plan, index, out, open)
 }
 
 // Call number i, with buffers and starts of the plan's lengths.
@@ -288,31 +295,6 @@ fn walk_cut(
     )
 }
 
-// The same with buffers of the largest lengths, of which it takes as much as the plan says.
-fn walk_parts(
-    input: &Input,
-    i: usize,
-    index: &mut [u8],
-    count: usize,
-    out: &mut [u32],
-) -> Result<Ended, Refusal>
-    requires { (length index.old ≡ 1048560) × (length out.old ≡ 65535) }
-    ensures { walked_of result index.new out.new ≡ walk_in input.now.bytes.now i index.old count out.old }
-{
-    let mut starts = [0u32; 65536];
-    let n = 16 * input.plan.capacity;
-    let m = input.plan.out as usize;
-    let k = input.plan.starts;
-    walk_cut(
-        input,
-        i,
-        &mut index[..n],
-        count,
-        &mut out[..m],
-        &mut starts[..k],
-    )
-}
-
 // The walk of call number i through the index at the front of its buffer, with out at the front of its own; their rest is untouched.
 pub fn walk_call(
     input: &[u8],
@@ -323,7 +305,12 @@ pub fn walk_call(
 ) -> Result<Ended, Refusal>
     ensures { walked_of result index.new out.new ≡ walk_in (heard_of input.now) i index.old count out.old }
 {
-    walk_parts(&read(input), i, index, count, out)
+    let input = read(input);
+    let walk = |index: &mut [u8], out: &mut [u32], starts: &mut [u32]| -> Result<Ended, Refusal>
+        requires { length starts.old ≡ input.plan.starts }
+        ensures { walked_of result index.new out.new ≡ walk_of input.entry.bytes.now i index.old count out.old }
+    { walk_cut(&input, i, index, count, out, starts) };
+    run_cut(input.plan, index, out, walk)
 }
 
 // The record count that is handed to the next call: an accepted walk's new one; after a refusal the earlier one still holds.

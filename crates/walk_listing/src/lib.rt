@@ -1,4 +1,9 @@
 // What the program walks prints of an input.
+// A text is filled from its end, so the place where it begins stands beside it: it is a result that is handed on. An index stands with its record
+// count beside it, as calls are handed both.
+// A usize is made a u64 by `as`: From makes none.
+// put_offsets and print_some fill and print a text by a rule of their own, as put_lines and print_lines of listing do by theirs: one function over a
+// closure would promise less of the text.
 #![tactic(auto)]
 
 ghost use Rattle.std.specs.Prelude.{◌≡◌, [], ◌∷◌, ◌++◌, ◌+◌, ◌≤◌, length, drop};
@@ -18,7 +23,7 @@ fn print_first(a: Result<Begun, Refusal>) -> Option<usize> {
         Ok(Begun::Built(built)) => {
             io::write_all(1, b"built ");
             io::print_decimal(1, built.count as u64);
-            listing::print_numbered(b" ", built.variable as u64);
+            listing::print_numbered(b" ", u64::from(built.variable));
             Some(built.count)
         }
         Ok(Begun::Given(count)) => {
@@ -65,22 +70,19 @@ fn mark_word(whole: bool) -> &'static [u8]
 }
 
 // Puts an answer without its offsets at the end of text, its last word first, and answers where it begins.
-fn put_ended(text: &mut [u8], e: Ended) -> usize
-    requires { length text.old ≡ 106 }
+fn put_ended(text: &mut [u8; 106], e: Ended) -> usize
     ensures upper_bound { result ≤ 106 }
     ensures text_after { drop result text.new ≡ ended_text e [] }
 {
     let records_at = listing::put_number(text, 106, e.records as u64);
     let mark_at = put_word(text, records_at, mark_word(e.whole));
-    let tables_at = listing::put_field(text, mark_at, e.tables as u64, b' ');
+    let tables_at = listing::put_field(text, mark_at, u64::from(e.tables), b' ');
     let count_at = listing::put_field(text, tables_at, e.count as u64, b' ');
-    let line_at = listing::put_field(text, count_at, e.line as u64, b' ');
+    let line_at = listing::put_field(text, count_at, u64::from(e.line), b' ');
     put_word(text, line_at, case_word(e.case))
 }
 
-fn print_head(text: &mut [u8], e: Ended)
-    requires { length text.old ≡ 106 }
-{
+fn print_head(text: &mut [u8; 106], e: Ended) {
     let at = put_ended(text, e);
     io::write_all(1, &text[at..]);
 }
@@ -91,27 +93,27 @@ fn put_offset(text: &mut [u8], end: usize, offset: u32) -> usize
     ensures end_bound { (end ≤ result + 21) × (result ≤ end) }
     ensures text_after { drop result text.new ≡ 32 ∷ decimal offset (drop end text.old) }
 {
-    let at = listing::put_number(text, end, offset as u64);
+    let at = listing::put_number(text, end, u64::from(offset));
     let blank = at - 1;
     text[blank] = b' ';
     blank
 }
 
 // Puts offsets at the end of text, the last one first, and answers where they begin.
-fn put_offsets(text: &mut [u8], out: &[u32]) -> usize
-    requires { (length out.now ≤ 128) × (length text.old ≡ 2688) }
+fn put_offsets(text: &mut [u8; 2688], out: &[u32]) -> usize
+    requires { length out.now ≤ 128 }
     ensures upper_bound { result ≤ 2688 }
     ensures text_after { drop result text.new ≡ offsets_text out.now [] }
 {
     let mut at = 2688;
-    for i in (0..out.len()).rev() {
-        at = put_offset(text, at, out[i]);
+    for offset in out.iter().rev() {
+        at = put_offset(text, at, *offset);
     }
     at
 }
 
-fn print_some(text: &mut [u8], out: &[u32])
-    requires { (length out.now ≤ 128) × (length text.old ≡ 2688) }
+fn print_some(text: &mut [u8; 2688], out: &[u32])
+    requires { length out.now ≤ 128 }
 {
     let at = put_offsets(text, out);
     io::write_all(1, &text[at..]);
@@ -144,7 +146,8 @@ fn print_walk(a: Result<Ended, Refusal>, index: &[u8], capacity: usize, out: &[u
     }
 }
 
-// The calls in order, each with the index, the count and out that the one before left. Answers the last count.
+// The calls in order, each with the index, the count and out that the one before left. Answers the last count. The loop goes over call numbers: there is
+// no slice of records.
 fn print_calls(
     input: &[u8],
     index: &mut [u8; 1048560],

@@ -4,18 +4,19 @@ use mathlib.Core.Path.{◌≡◌, refl, sym, ◌∙◌, ap}
 use mathlib.Core.Bool.{Bool, true, false, not, ◌&&◌, ◌||◌}
 use mathlib.Core.List.{List, [], ◌∷◌}
 use Prim.Native.Nat.{ℕ, zero, suc, ◌+◌, ◌-◌, ◌≤◌, ◌<◌}
+use native.Mathlib.Decide.{ℕ_discrete}
 use native.Mathlib.Omega.{arith}
 use borrow.Author.Tests.{eqb-true, eqb-false}
 use lib.Dec.{eqb}
 use native.Mathlib.Numerals.{add-one}
-use lib.ListN.{length, get_or, drop, set, length-set, drop_of_length-le}
+use lib.ListN.{length, get_or, drop, drop_of_length-le}
 use Rattle.records.specs.declared.Rec.{Rec}
 use Rattle.records.specs.Records.{zero_rec}
-use Rattle.indexing.specs.Chains.{Chained}
+use Rattle.indexing.specs.Chains.{Chained, Cleared}
 use Rattle.indexing.proofs.Tests.{and-true}
-use Rattle.indexing.proofs.Chains.{Reached, chain-start, chain_next, chained-none, chained_more}
+use Rattle.indexing.proofs.Chains.{chained-none}
 use Rattle.well_formed.specs.Pass.{same_fields, among, distinct_keys}
-use Rattle.well_formed.specs.Chains.{bucket_of, in_bucket, Cleared}
+use Rattle.well_formed.specs.Chains.{bucket_of, in_bucket}
 use Rattle.well_formed.proofs.KeyParts.{drop_back, distinct-step, distinct_none}
 
 -- ---- buckets
@@ -53,50 +54,50 @@ behind R at h =
     let n : length R - (length R - (at + 1)) ≡ at + 1 = omega arith in
     ap (λ (i : ℕ). drop i R) n
 
--- ---- a chain followed: does one of the entries behind a place have the key of r?
+-- ---- does one of the entries behind a place have the key of r? They are items counted from the last
 
-module _ (R : List Rec) (links : List ℕ) (size at : ℕ) (r : Rec) where
-  -- number p is reached in the chain of the key's bucket
-  abbrev pub At : ℕ → Type 0
-  At p = Reached (in_bucket size R (length R)) links (bucket_of size r) (length R - (at + 1)) (λ (m : ℕ). among r (ending R m)) p
+module _ (R : List Rec) (r : Rec) where
+  one_more : (m : ℕ) → m < length R → among r (ending R (suc m)) ≡ same_fields r (get_or R (length R - suc m) zero_rec) || among r (ending R m)
+  unfolding among
+  one_more m k = rw (ending-more R m k) refl
 
-  module _ (h : at < length R) where
-    one_more : (m : ℕ) → m < length R → among r (ending R (suc m)) ≡ same_fields r (get_or R (length R - suc m) zero_rec) || among r (ending R m)
-    unfolding among
-    one_more m k = rw (ending-more R m k) refl
+  -- one that has it
+  among-one : (i m : ℕ) → i < m → m ≤ length R → same_fields r (get_or R (length R - suc i) zero_rec) ≡ true → among r (ending R m) ≡ true
+  among-one i zero l h e = absurd (omega arith)
+  among-one i (suc m) l h e = one_more m h ∙ go (ℕ_discrete i m) (λ k. among-one i m k (omega arith) e)
+    where
+      or_true : (t : Bool) → t || true ≡ true
+      or_true true = refl
+      or_true false = refl
 
-    told : (p : ℕ) → At p → among r (ending R p) ≡ among r (drop (at + 1) R)
-    told p x = x.left ∙ ap (among r) (behind R at h)
+      go : Dec (i ≡ m) → (i < m → among r (ending R m) ≡ true) → same_fields r (get_or R (length R - suc m) zero_rec) || among r (ending R m) ≡ true
+      go (yes q) ih = rw (← q, e) refl
+      go (no q) ih = rw (ih (omega arith)) (or_true (same_fields r (get_or R (length R - suc m) zero_rec)))
 
-    -- entries of other buckets are passed over
-    quiet : (i : ℕ) → i < length R - (at + 1) → in_bucket size R (length R) (bucket_of size r) i ≡ false
-        → among r (ending R (suc i)) ≡ among r (ending R i)
-    unfolding in_bucket
-    quiet i k e = rw (one_more i (omega arith), other-bucket size r (get_or R (length R - suc i) zero_rec) e) refl
+  -- none that has it: those of other buckets have other keys
+  among-no : (size m : ℕ) → m ≤ length R
+      → ((i : ℕ) → i < m → in_bucket size R (length R) (bucket_of size r) i ≡ true → same_fields r (get_or R (length R - suc i) zero_rec) ≡ false)
+      → among r (ending R m) ≡ false
+  unfolding among in_bucket
+  among-no size zero h none = rw (ending-none R) refl
+  among-no size (suc m) h none = one_more m h ∙ rw (go (eqb (bucket_of size q) (bucket_of size r)) refl, among-no size m (omega arith) (λ i l e. none i (omega arith) e)) refl
+    where
+      q : Rec
+      q = get_or R (length R - suc m) zero_rec
 
-    pub found : (p m : ℕ) → p ≡ suc m → At p → same_fields r (get_or R (length R - p) zero_rec) ≡ true → among r (drop (at + 1) R) ≡ true
-    found p m n x e =
-        let i : same_fields r (get_or R (length R - suc m) zero_rec) ≡ true = rw n at e in
-        let y : among r (ending R (suc m)) ≡ among r (drop (at + 1) R) = rw n at (told p x) in
-        sym y ∙ rw (one_more m (omega (arith, x.within)), i) refl
+      go : (t : Bool) → eqb (bucket_of size q) (bucket_of size r) ≡ t → same_fields r q ≡ false
+      go true f = none m (omega arith) f
+      go false f = other-bucket size r q f
 
-    pub followed : (p : ℕ) → p ≡ 0 → At p → among r (drop (at + 1) R) ≡ false
-    unfolding among
-    followed p n x =
-        let y : among r (ending R 0) ≡ among r (drop (at + 1) R) = rw n at (told p x) in
-        sym (rw (ending-none R) at y)
+  module _ (at : ℕ) (h : at < length R) where
+    pub behind-found : (i : ℕ) → i < length R - (at + 1) → same_fields r (get_or R (length R - suc i) zero_rec) ≡ true → among r (drop (at + 1) R) ≡ true
+    behind-found i l e = sym (ap (among r) (behind R at h)) ∙ among-one i (length R - (at + 1)) l (omega arith) e
 
-    module _ (heads : List ℕ) (C : Chained (in_bucket size R (length R)) heads links (length R - (at + 1))) where
-      -- it begins at its bucket
-      pub start : (b : ℕ) → b ≡ bucket_of size r → b < length heads → At (get_or heads b 0)
-      start b e k =
-          let l : bucket_of size r < length heads = rw e at k in
-          rw e (chain-start _ _ _ _ _ quiet heads C l)
-
-      pub follow : (p m : ℕ) → p ≡ suc m → At p → same_fields r (get_or R (length R - p) zero_rec) ≡ false → At (get_or links m 0)
-      follow p m n x e =
-          let i : same_fields r (get_or R (length R - suc m) zero_rec) ≡ false = rw n at e in
-          chain_next _ _ _ _ _ quiet heads C p m n x (rw (one_more m (omega (arith, x.within)), i) refl)
+    pub behind-nowhere : (size b : ℕ) → b ≡ bucket_of size r
+        → ((i : ℕ) → i < length R - (at + 1) → in_bucket size R (length R) b i ≡ true → same_fields r (get_or R (length R - suc i) zero_rec) ≡ false)
+        → among r (drop (at + 1) R) ≡ false
+    behind-nowhere size b e none =
+        sym (ap (among r) (behind R at h)) ∙ among-no size (length R - (at + 1)) (omega arith) (λ i l f. none i l (rw e f))
 
 -- ---- distinct keys
 
@@ -111,38 +112,38 @@ distinct-less R (suc i) h f =
     none_both true = refl
     none_both false = refl
 
--- the entries from i on are read: their keys are distinct, and they stand in chains
-pub record ReadFrom (R : List Rec) (heads links : List ℕ) (i : ℕ) : Type 0 where
+-- the entries from i on are read: their keys are distinct, and they stand in chains, of size many buckets
+pub record ReadFrom (R : List Rec) (size : ℕ) (heads links : List ℕ) (i : ℕ) : Type 0 where
   pub once : distinct_keys (drop i R) ≡ true
-  pub chains : Chained (in_bucket (length heads) R (length R)) heads links (length R - i)
+  pub chains : Chained (in_bucket size R (length R)) heads links (length R - i)
 
-pub read_none : (R : List Rec) (heads links : List ℕ) (n : ℕ) → n ≡ length R → Cleared heads → ReadFrom R heads links n
-read_none R heads links n e z =
+pub read_none : (R : List Rec) (size : ℕ) (heads links : List ℕ) (n : ℕ) → n ≡ length R → Cleared heads → ReadFrom R size heads links n
+read_none R size heads links n e z =
     let m : length R - n ≡ 0 = omega arith in
     record {
       once = distinct_none R n (omega arith);
-      chains = rw m (chained-none (in_bucket (length heads) R (length R)) heads links (λ b h. z b));
+      chains = rw m (chained-none (in_bucket size R (length R)) heads links (λ b h. z b));
     }
 
--- the entry at j in front of those from i on, n of them, b its bucket
-module _ (R : List Rec) (heads links : List ℕ) (i j n b : ℕ) (next : j + 1 ≡ i) (low : i ≤ length R) (x : ReadFrom R heads links i) where
-  pub read_behind : Chained (in_bucket (length heads) R (length R)) heads links (length R - (j + 1))
+-- the entry at j in front of those from i on
+module _ (R : List Rec) (size : ℕ) (heads links : List ℕ) (i j : ℕ) (next : j + 1 ≡ i) (low : i ≤ length R) (x : ReadFrom R size heads links i) where
+  pub read_behind : Chained (in_bucket size R (length R)) heads links (length R - (j + 1))
   read_behind = rw next x.chains
 
-  pub read_more : (heads' links' : List ℕ) (r : Rec) → r ≡ get_or R j zero_rec → b ≡ bucket_of (length heads) r → b < length heads
-      → n ≡ length R - i → n < length links
-      → among (get_or R j zero_rec) (drop (j + 1) R) ≡ false → heads' ≡ set heads b (n + 1) → links' ≡ set links n (get_or heads b 0)
-      → ReadFrom R heads' links' j
+  -- it is of its own bucket
+  pub read_once : (b : ℕ) → b ≡ bucket_of size (get_or R j zero_rec) → (d : ℕ) → in_bucket size R (length R) d (length R - i) ≡ eqb b d
   unfolding in_bucket
-  read_more heads' links' r e f h m k a u v =
+  read_once b e d = let g : length R - suc (length R - i) ≡ j = omega arith in
+      rw (g, ← e) refl
+
+  pub read_more : (heads' links' : List ℕ) → among (get_or R j zero_rec) (drop (j + 1) R) ≡ false
+      → Chained (in_bucket size R (length R)) heads' links' (length R - i + 1) → ReadFrom R size heads' links' j
+  read_more heads' links' a C =
       let d : distinct_keys (drop (j + 1) R) ≡ true = rw next x.once in
-      let g : length R - suc (length R - i) ≡ j = omega arith in
       let o : length R - j ≡ length R - i + 1 = omega arith in
-      let l : length (set heads b (n + 1)) ≡ length heads = length-set heads b (n + 1) in
-      let c = chained_more (in_bucket (length heads) R (length R)) heads links (length R - i) x.chains b h (omega arith) (λ d. rw (g, ← e, ← f) refl) in
       record {
         once = rw (distinct-step (get_or R j zero_rec) R j (omega arith) refl, a, d) refl;
-        chains = rw (u, v, l, o, m) c;
+        chains = rw o C;
       }
 
   pub read_twice : among (get_or R j zero_rec) (drop (j + 1) R) ≡ true → distinct_keys R ≡ false

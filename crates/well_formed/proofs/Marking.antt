@@ -9,9 +9,9 @@ use native.Mathlib.Nat.{add-zero}
 use native.Mathlib.Omega.{arith}
 use borrow.Author.Tests.{eqb-true, eqb-false, ltb-true, lt-ltb}
 use lib.Dec.{eqb, ltb}
-use lib.ListN.{length, get_or, take, set, replicate}
+use lib.ListN.{length, get_or, take, drop, set, replicate}
 use Rattle.std.proofs.lemmas.List.{take_more}
-use lib.Seq.{slice, get_or-set_same, get_or-set_other}
+use lib.Seq.{get_or-set_same, get_or-set_other}
 use Rattle.records.specs.declared.Rec.{Rec}
 use Rattle.records.specs.Records.{zero_rec}
 use Rattle.indexing_iter.specs.Checks.{rising_below}
@@ -22,18 +22,18 @@ use Rattle.indexing.specs.Lines.{Line, Index}
 use Rattle.indexing.specs.Reading.{Waiting, read_all, parse}
 use Rattle.well_formed.specs.WellFormed.{well_formed}
 use Rattle.well_formed.specs.Pass.{one_line, marked, Marks, nothing, checked}
-use Rattle.well_formed.specs.Chains.{Cleared}
-use Rattle.well_formed.proofs.PassCode.{slice_back}
+use Rattle.indexing.specs.Chains.{Cleared}
+use Rattle.well_formed.proofs.KeyParts.{drop_back}
 use Rattle.well_formed.proofs.PassIs.{pass-is}
 use Rattle.well_formed.proofs.Turns.{turn-of, turn_lines}
 
 -- ---- lines
 
-pub lines_more : (R : List Rec) (count i j n : ℕ) (r : Rec) → j + 1 ≡ i → i ≤ count → count ≤ length R → r ≡ get_or R j zero_rec
-    → n ≡ length (parse (slice i count R)) → n + one_line r.kind ≡ length (parse (slice j count R))
-lines_more R count i j n r next low high here e =
-    let w : Waiting = read_all (slice i count R) nothing in
-    let f : slice j count R ≡ r ∷ slice i count R = slice_back R i j count next low high ∙ ap (λ (q : Rec). q ∷ slice i count R) (sym here) in
+pub lines_more : (R : List Rec) (i j n : ℕ) (r : Rec) → j + 1 ≡ i → i ≤ length R → r ≡ get_or R j zero_rec
+    → n ≡ length (parse (drop i R)) → n + one_line r.kind ≡ length (parse (drop j R))
+lines_more R i j n r next low here e =
+    let w : Waiting = read_all (drop i R) nothing in
+    let f : drop j R ≡ r ∷ drop i R = drop_back R i j next low ∙ ap (λ (q : Rec). q ∷ drop i R) (sym here) in
     rw (f, turn_lines (turn-of r.kind r w), e) (go (eqb r.kind 1) (record { tables = w.tables; choices = w.choices }) w.lines)
   where
     go : (b : Bool) (x : Line) (ls : Index) → length ls + cond b 1 0 ≡ length (cond b (x ∷ ls) ls)

@@ -8,33 +8,18 @@ use native.Mathlib.Omega.{arith}
 use borrow.Author.Tests.{ltb-true, ltb-false, lt-ltb, le-ltb}
 use lib.Dec.{eqb, ltb}
 use lib.ListN.{length, get_or, take, drop, set, take-append-drop}
-use lib.Seq.{slice, get_or-set_same, get_or-set_other, length-slice, take-take, take-nil}
+use Rattle.std.proofs.lemmas.List.{length-drop}
+use lib.Seq.{get_or-set_same, get_or-set_other}
 use Rattle.records.specs.declared.Rec.{Rec}
 use Rattle.records.specs.Records.{zero_rec}
-use Rattle.indexing_iter.proofs.Parts.{slice-step}
 use Rattle.indexing.proofs.Tests.{bool-absurd, and-true, both, not-true}
 use Rattle.indexing.specs.Lines.{Ptr, ext, int, Line, Index, line_at}
 use Rattle.indexing.specs.Reading.{pointer_from, Waiting, read, read_all}
 use Rattle.well_formed.specs.declared.Waits.{Waits}
-use Rattle.well_formed.specs.Pass.{first_arg, reach, waits, step_ok, fresh, after, reach_in, noted, distinct_keys, keys_once}
+use Rattle.well_formed.specs.Pass.{first_arg, reach, waits, step_ok, fresh, after, reach_in, noted, distinct_keys, keys_once, passed_by}
 use Rattle.well_formed.specs.Pass.{closed, nothing, pass, checked}
-use Rattle.well_formed.proofs.KeyParts.{once-behind}
+use Rattle.well_formed.proofs.KeyParts.{drop_back, once-behind}
 use Rattle.well_formed.proofs.Turns.{turn-of, turn_lines, turn-after, all-bound, pass-behind}
-
--- ---- parts of the records
-
-drop-take-add : {A : Type 0} (f e : ℕ) (l : List A) → drop f (take (f + e) l) ≡ take e (drop f l)
-drop-take-add zero e l = let z : 0 + e ≡ e = omega arith in rw z refl
-drop-take-add (suc f) e [] = let z : suc f + e ≡ suc (f + e) = omega arith in rw z (sym (take-nil e))
-drop-take-add (suc f) e (x ∷ l) = let z : suc f + e ≡ suc (f + e) = omega arith in rw z (drop-take-add f e l)
-
--- the first e of the records from f up to t
-slice_front : {A : Type 0} (f e t : ℕ) (l : List A) → f + e ≤ t → slice f (f + e) l ≡ take e (slice f t l)
-slice_front f e t l h = ap (drop f) (sym (take-take (f + e) t l h)) ∙ drop-take-add f e (take t l)
-
--- one record more in front
-pub slice_back : (rs : List Rec) (i j end : ℕ) → j + 1 ≡ i → i ≤ end → end ≤ length rs → slice j end rs ≡ get_or rs j zero_rec ∷ slice i end rs
-slice_back rs i j end e h k = slice-step rs j end (omega arith) k ∙ ap (λ (n : ℕ). get_or rs j zero_rec ∷ slice n end rs) e
 
 -- ---- the first arguments of the lines behind
 
@@ -143,56 +128,50 @@ module _ (arity : ℕ) (dynamic : Bool) (known : ℕ → Bool) (total : ℕ) whe
       not-true (λ f. bool-absurd (behind-passes nothing (take i rs) (drop i rs)
       (ap (pass arity dynamic known total nothing) (take-append-drop i rs) ∙ f)) e)
 
-  -- ---- a turn of the loop, over the first count of the records
+  -- ---- a turn of the loop
 
   -- the records from i on have passed, and r is the one in front of them
-  pub record Here (R : List Rec) (count i : ℕ) (r : Rec) (s : Waits) (firsts : List ℕ) : Type 0 where
-    pub met : Met (slice i count R) s firsts
+  pub record Here (R : List Rec) (i : ℕ) (r : Rec) (s : Waits) (firsts : List ℕ) : Type 0 where
+    pub met : Met (drop i R) s firsts
     pub some : 0 < i
-    pub low : i ≤ count
-    pub high : count ≤ length R
-    pub held : s.entries + i ≤ count
+    pub low : i ≤ length R
     pub is : r ≡ get_or R (i - 1) zero_rec
 
-  module _ {R : List Rec} {count i : ℕ} {r : Rec} {s : Waits} {firsts : List ℕ} (h : Here R count i r s firsts) where
-    front : slice (i - 1) count R ≡ r ∷ slice i count R
+  module _ {R : List Rec} {i : ℕ} {r : Rec} {s : Waits} {firsts : List ℕ} (h : Here R i r s firsts) where
+    front : drop (i - 1) R ≡ r ∷ drop i R
     front =
         let next : i - 1 + 1 ≡ i = omega (arith, h.some) in
-        slice_back R i (i - 1) count next h.low h.high ∙ ap (λ (q : Rec). q ∷ slice i count R) (sym h.is)
+        drop_back R i (i - 1) next h.low ∙ ap (λ (q : Rec). q ∷ drop i R) (sym h.is)
 
-    -- the entries behind a switch record
-    switch-keys : slice i (i + s.entries) R ≡ take s.entries (slice i count R)
-    switch-keys = slice_front i s.entries count R (omega (arith, h.held))
-
-    -- the tests of a record of kind k and of its keys
+    -- the tests of a record of kind k
     abbrev pub Tests : ℕ → Bool
-    Tests k = step_ok arity dynamic known total k r s && cond (eqb k 2) (distinct_keys (slice i (i + s.entries) R)) true
+    Tests k = passed_by arity dynamic known total k r s (drop i R)
 
-    pub refused : (k : ℕ) → r.kind ≡ k → Tests k ≡ false → checked arity dynamic known total (take count R) ≡ false
+    pub refused : (k : ℕ) → r.kind ≡ k → Tests k ≡ false → checked arity dynamic known total R ≡ false
     unfolding checked
     refused k e t =
         let u : Tests r.kind ≡ false = ap Tests e ∙ t in
-        let f : pass arity dynamic known total nothing (slice (i - 1) count R) ≡ false =
-        ap (pass arity dynamic known total nothing) front ∙ met-pass h.met r ∙ rw switch-keys at u in
-        rw (all-fail (take count R) (i - 1) f)
+        let f : pass arity dynamic known total nothing (drop (i - 1) R) ≡ false =
+        ap (pass arity dynamic known total nothing) front ∙ met-pass h.met r ∙ u in
+        rw (all-fail R (i - 1) f)
 
     pub met-turn : (k : ℕ) → r.kind ≡ k → (s' : Waits) (firsts' : List ℕ) → s.lines < length firsts → Tests k ≡ true
         → s' ≡ after k r s (reach_in dynamic known firsts s.lines (pointer_from r.word))
-        → firsts' ≡ noted k s.lines s.first firsts → Met (slice (i - 1) count R) s' firsts'
+        → firsts' ≡ noted k s.lines s.first firsts → Met (drop (i - 1) R) s' firsts'
     met-turn k e s' firsts' l t f g =
-        let x = and-true (step_ok arity dynamic known total r.kind r s) (cond (eqb r.kind 2) (distinct_keys (slice i (i + s.entries) R)) true)
+        let x = and-true (step_ok arity dynamic known total r.kind r s) (cond (eqb r.kind 2) (distinct_keys (take s.entries (drop i R))) true)
         (ap Tests e ∙ t) in
-        met-more h.met r (slice (i - 1) count R) s' firsts' front l x.0 (rw switch-keys at x.1)
+        met-more h.met r (drop (i - 1) R) s' firsts' front l x.0 x.1
         (f ∙ ap (λ (n : ℕ). after n r s (reach_in dynamic known firsts s.lines (pointer_from r.word))) (sym e))
         (g ∙ ap (λ (n : ℕ). noted n s.lines s.first firsts) (sym e))
 
-  pub met-within : (R : List Rec) (count i : ℕ) (s : Waits) (firsts : List ℕ) → count ≤ length R → i ≤ count → Met (slice i count R) s firsts
-      → (s.lines + i ≤ count) × (s.entries + i ≤ count)
-  met-within R count i s firsts h k m = omega (arith, met-bound m, length-slice i count R h)
+  pub met-within : (R : List Rec) (i : ℕ) (s : Waits) (firsts : List ℕ) → i ≤ length R → Met (drop i R) s firsts
+      → (s.lines + i ≤ length R) × (s.entries + i ≤ length R)
+  met-within R i s firsts k m = omega (arith, k, met-bound m, length-drop i R)
 
-  pub met-end : (R : List Rec) (count i : ℕ) (s : Waits) (firsts : List ℕ) → i ≡ 0 → Met (slice i count R) s firsts
-      → closed s ≡ checked arity dynamic known total (take count R)
+  pub met-end : (R : List Rec) (i : ℕ) (s : Waits) (firsts : List ℕ) → i ≡ 0 → Met (drop i R) s firsts
+      → closed s ≡ checked arity dynamic known total R
   unfolding checked
-  met-end R count i s firsts e m =
-      let n : Met (take count R) s firsts = rw e at m in
+  met-end R i s firsts e m =
+      let n : Met R s firsts = rw e at m in
       rw (n.passed, ← n.state)

@@ -8,7 +8,7 @@ use borrow.Author.Tests.{eqb-true, le-ltb, lt-ltb, leb-true, leb-false}
 use lib.Dec.{eqb}
 use Rattle.records.specs.declared.Rec.{Rec}
 use Rattle.records.specs.Pointer.{is_internal, distance_of}
-use Rattle.std.specs.Prelude.{Result, Ok, Err}
+use Rattle.std.specs.Prelude.{Result, Ok, Err, Some, None}
 use Rattle.indexing.specs.declared.kinds.Kind.{Kind}
 use Rattle.indexing.specs.declared.kinds.Kind.TheVariants.{Line, Switch, OnDemand, Dead, Entry, Choice, DeadClause}
 use Rattle.indexing.specs.declared.kinds.UnknownKind.{UnknownKind}
@@ -16,7 +16,7 @@ use Rattle.indexing.specs.Kinds.{kind_number, kind_in}
 use Rattle.indexing.specs.Lines.{ext, int}
 use Rattle.indexing.specs.Reading.{pointer_from}
 use Rattle.well_formed.specs.declared.Waits.{Waits}
-use Rattle.well_formed.specs.Pass.{line_step, switch_step, demand_step, dead_step, entry_step, choice_step, clause_step, step_ok}
+use Rattle.well_formed.specs.Pass.{line_step, switch_step, demand_step, dead_step, entry_step, choice_step, clause_step, step_ok, stepped}
 
 -- ---- kinds by their numbers
 
@@ -64,6 +64,16 @@ step_none arity dynamic known total n r s u e = go (eqb n 1) (eqb n 2) (eqb n 3)
     go false false false false false true b₇ f = cc
     go false false false false false false true f = cc
     go false false false false false false false f = refl
+
+-- ---- a state that is reached or not
+
+pub step-some : (t : Bool) (s q : Waits) → stepped t s ≡ Some q → (t ≡ true) × (q ≡ s)
+step-some true s q e = (refl, cc)
+step-some false s q e = cc
+
+pub step-refused : (t : Bool) (s : Waits) → stepped t s ≡ None → t ≡ false
+step-refused true s e = cc
+step-refused false s e = refl
 
 -- ---- a pointer's word
 

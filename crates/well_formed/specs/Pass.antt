@@ -1,7 +1,7 @@
 -- The check of number 12 as the code makes it: record by record from the last to the first, as Reading reads them.
 -- Inner definitions, for the contracts of this crate's functions; proofs/PassIs shows that the check's answer is well_formed's.
 -- Assumes nothing.
-use Rattle.std.specs.Prelude.{◌≡◌, Bool, true, false, cond, not, ◌&&◌, ◌||◌, List, [], ◌∷◌, Option, None, Some, ℕ, zero, suc, ◌+◌, ◌-◌, eqb, leb, ltb, length, get_or, set}
+use Rattle.std.specs.Prelude.{◌≡◌, Bool, true, false, cond, not, ◌&&◌, ◌||◌, List, [], ◌∷◌, Option, None, Some, ℕ, zero, suc, ◌+◌, ◌-◌, eqb, leb, ltb, length, get_or, set, take}
 use Rattle.records.specs.declared.Rec.{Rec}
 use Rattle.indexing_iter.specs.declared.OptArgIndexKey.{OptArgIndexKey as Key}
 use Rattle.indexing_iter.specs.declared.group.Group.{Group}
@@ -219,6 +219,15 @@ distinct_keys (r ∷ rs) = let rest = distinct_keys rs in not (among r rs) && re
 abbrev pub once : List Key → Bool
 once [] = true
 once (k ∷ ks) = not (any_of (same k) ks) && once ks
+
+-- a record of kind k passes in front of the records behind: of a switch, the keys of its entries too
+abbrev pub passed_by : ℕ → Bool → (ℕ → Bool) → ℕ → ℕ → Rec → Waits → List Rec → Bool
+passed_by arity dynamic known total k r s behind =
+    step_ok arity dynamic known total k r s && cond (eqb k 2) (distinct_keys (take s.entries behind)) true
+
+-- a state that is reached where a record passes
+abbrev pub stepped : Bool → Waits → Option Waits
+stepped t s = cond t (Some s) None
 
 -- the keys of a switch are looked at when its record is met
 unfoldable pub keys_once : ℕ → List (Entry Ptr) → Bool

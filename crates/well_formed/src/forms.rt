@@ -1,10 +1,12 @@
 // What number 12 asks of the fields of one record, and of a pointer.
+// A u32 becomes a usize by `as`: there is no From for it.
 ghost use Rattle.std.specs.Prelude.{◌≡◌, cond, not, ◌&&◌, ◌-◌, ◌<◌, ltb, length, get_or};
 ghost use Rattle.indexing.specs.Reading.{pointer_from};
 ghost use Rattle.indexing_iter.specs.Groups.{group_code};
 ghost use Rattle.well_formed.specs.Pass.{group_by_sort, form_ok, rises, tag_in};
 ghost use Rattle.well_formed.specs.Pass.{marked, reach_in};
 
+use indexing::tags::Tag;
 use indexing_iter::group::Group;
 
 // Whether an offset is a clause's: marks has a 1 there.
@@ -16,7 +18,7 @@ fn is_known(marks: &[u8], offset: u32) -> bool
     at < marks.len() && marks[at] == 1
 }
 
-// Whether an offset may stand in front of others, of which first is the first (0: there is none).
+// Whether an offset may stand in front of others, of which first is the first (0: there is none; a word of a record, where 0 is no clause's offset).
 #[tactic(auto, unfolding(crate::specs::Pass::rises))]
 pub fn may_rise(marks: &[u8], offset: u32, first: u32) -> bool
     ensures { result ≡ rises (marked marks.now) offset first }
@@ -24,19 +26,21 @@ pub fn may_rise(marks: &[u8], offset: u32, first: u32) -> bool
     is_known(marks, offset) && (first == 0 || offset < first)
 }
 
-// An offset's tag is 6 or 7 if dynamic, else 1 to 5.
+// An offset's tag is A or Z if dynamic, else one of the other five. A tag is a byte of a handed record, and may be any.
 #[tactic(auto, unfolding(crate::specs::Pass::tag_in))]
 pub fn tag_ok(dynamic: bool, tag: u8) -> bool
     ensures { result ≡ tag_in dynamic tag }
 {
-    if dynamic {
-        6 <= tag && tag <= 7
-    } else {
-        1 <= tag && tag <= 5
+    let Ok(tag) = Tag::try_from(tag) else {
+        return false;
+    };
+    match tag {
+        Tag::A | Tag::Z => dynamic,
+        _ => !dynamic,
     }
 }
 
-// The fields of an entry are a key's: of a literal the arity is 0, of a list arity and bits are.
+// The fields of an entry are a key's: of a literal the arity is 0, of a list arity and bits are. A sort is a byte of a handed record, and may be any.
 #[tactic(auto, unfolding(crate::specs::Pass::form_ok))]
 pub fn form_ok(sort: u8, arity: u16, bits: u64) -> bool
     ensures { result ≡ form_ok sort arity bits }
@@ -49,7 +53,7 @@ pub fn form_ok(sort: u8, arity: u16, bits: u64) -> bool
     }
 }
 
-// The group of a key by its sort: none where the sort is 0.
+// The group of a key by its sort, a byte that may be any: none where it is 0.
 pub fn group_by_sort(sort: u8) -> Option<Group>
     ensures { group_code result ≡ group_by_sort sort }
 {
@@ -84,7 +88,8 @@ fn inner_reach(distance: usize, firsts: &[u16], lines: usize) -> u16
     }
 }
 
-// A pointer's bound: its switch must have an argument below this, 0 where the pointer is wrong.
+// A pointer's bound: its switch must have an argument below this. It is 0 where the pointer is wrong, and no Option: no argument is below 0, so
+// one minimum over the entries and one comparison at the switch serve.
 pub fn reach_of(word: u32, firsts: &[u16], lines: usize, marks: &[u8], dynamic: bool) -> u16
     requires { lines < length firsts.now }
     ensures { result ≡ reach_in dynamic (marked marks.now) firsts.now lines (pointer_from word) }

@@ -1,5 +1,7 @@
 // Number 12: whether a handed-in index is well formed. Its lines are counted, then its records are checked in one pass from the last to the
 // first, with the keys of each switch compared where its record is met.
+// count_lines and well_formed take a buffer with the number of its records: they are public, and the rest of the buffer is room for growth.
+// A u32 becomes a usize by `as`: there is no From for it.
 #![tactic(auto)]
 
 pub mod forms;
@@ -12,8 +14,8 @@ ghost use Rattle.indexing.specs.Reading.{parse};
 ghost use Rattle.indexing_iter.specs.Checks.{rising_below};
 ghost use Rattle.indexing_iter.specs.Clauses.{known};
 ghost use Rattle.well_formed.specs.WellFormed.{well_formed};
-ghost use Rattle.well_formed.specs.Pass.{closed, marked, Marks, one_line, checked};
-ghost use Rattle.well_formed.specs.Chains.{Cleared};
+ghost use Rattle.well_formed.specs.Pass.{marked, Marks, checked};
+ghost use Rattle.indexing.specs.Chains.{Cleared};
 
 use indexing::kinds::Kind;
 use indexing_iter::group::Group;
@@ -29,33 +31,30 @@ pub struct Asked<'a> {
 
 // The state of the pass. Of what has no table or line record in front of it yet: how many entries, the group of the first of
 // them and what the argument of their switch must be below; the first dead clause (0: none); the first table's
-// argument (33: none); the first offset (0: none). And how many lines are behind.
+// argument (33: none); the first offset (0: none). And how many lines are behind. Neither entries nor lines exceed an index's 65,535 records.
 // clause, first and offset are no Options: clause and offset are words of records, where 0 is no clause's offset; and 33 is above
 // every argument, so one comparison tells whether a table may stand in front.
 #[derive(Clone, Copy)]
 pub struct Waits {
-    pub entries: usize,
+    pub entries: u16,
     pub group: Option<Group>,
     pub below: u16,
     pub clause: u32,
     pub first: u16,
     pub offset: u32,
-    pub lines: usize,
+    pub lines: u16,
 }
 
-// Whether nothing is left without a table or line record in front, and there is a line.
-#[tactic(auto, unfolding(crate::specs::Pass::closed))]
-fn is_closed(s: Waits) -> bool
-    ensures { result ≡ closed s }
+// How many lines the records have. `filter` and `count` over the places were tried: a later call took 1 to 4 % more instructions.
+fn lines_in(index: &[u8]) -> usize
+    ensures { result ≡ length (parse (records_of index.now)) }
 {
-    steps::is_idle(s) && s.first == 33 && s.offset == 0 && 0 < s.lines
-}
-
-// 1 for a line record, else 0.
-fn one_line(kind: u8) -> usize
-    ensures { (result ≡ one_line kind) × (result ≤ 1) }
-{
-    if kind == Kind::Line as u8 { 1 } else { 0 }
+    let mut lines = 0;
+    for i in (0..records::capacity(index)).rev() {
+        let r = records::get(index, i);
+        lines += usize::from(r.kind == Kind::Line as u8);
+    }
+    lines
 }
 
 // How many lines the first count records have.
@@ -63,12 +62,7 @@ pub fn count_lines(index: &[u8], count: usize) -> usize
     requires { (count ≤ length (records_of index.now)) × (count ≤ 65535) }
     ensures { result ≡ length (parse (take count (records_of index.now))) }
 {
-    let mut lines = 0;
-    for i in (0..count).rev() {
-        let r = records::get(index, i);
-        lines += one_line(r.kind);
-    }
-    lines
+    lines_in(records::part(index, 0, count))
 }
 
 // Marks the offsets of the clauses: each start plus 1.
@@ -82,53 +76,51 @@ fn mark_starts(marks: &mut [u8], starts: &[u32])
     }
 }
 
-// The records from the last to the first, each in front of those behind it; firsts takes the first arguments of the lines.
-fn check_records(index: &[u8], count: usize, asked: &Asked, firsts: &mut [u16]) -> bool
-    requires count_in_bounds { (count ≤ length (records_of index.now)) × (count ≤ 65535) }
-    requires count_in_bounds_2 { count ≤ length firsts.old }
-    ensures { result ≡ checked asked.now.arity asked.now.dynamic (marked asked.now.marks.now) asked.now.total (take count (records_of index.now)) }
+// The records from the last to the first, each in front of those behind it; firsts takes the first arguments of the lines. The loop goes by places:
+// that order is the pass's, and records are bytes, of which there is no slice of records.
+fn check_records(index: &[u8], asked: &Asked, firsts: &mut [u16]) -> bool
+    requires { (length (records_of index.now) ≤ 65535) × (length (records_of index.now) ≤ length firsts.old) }
+    ensures { result ≡ checked asked.now.arity asked.now.dynamic (marked asked.now.marks.now) asked.now.total (records_of index.now) }
 {
-    let mut s = steps::at_line(0);
-    for i in (0..count).rev() {
+    let n = records::capacity(index);
+    let mut s = Waits::at_line(0);
+    for i in (0..n).rev() {
         let r = records::get(index, i);
         let Ok(kind) = Kind::try_from(r.kind) else {
             return false;
         };
-        let entries = records::part(index, i + 1, i + 1 + s.entries);
-        if !(steps::record_ok(kind, r, s, asked) && keys::keys_ok(entries, kind)) {
+        let behind = records::part(index, i + 1, n);
+        let Some(next) = s.step(kind, r, behind, firsts, asked) else {
             return false;
-        }
-        let next = steps::after(kind, r, s, firsts, asked);
-        steps::note_line(firsts, kind, s);
+        };
         s = next;
     }
-    is_closed(s)
+    s.is_closed()
 }
 
 // Number 12 with tables of the sizes MARKS, for the clauses' offsets, and LINES, for the first arguments of the lines.
 fn formed_in<const MARKS: usize, const LINES: usize>(
     index: &[u8],
-    count: usize,
     starts: &[u32],
     arity: u32,
     dynamic: bool,
 ) -> bool
     requires sizes { (MARKS ≤ 32769) × (LINES ≤ 65535) }
-    requires count_in_bounds { (count ≤ length (records_of index.now)) × (count ≤ LINES) }
+    requires lines_in_bounds { length (records_of index.now) ≤ LINES }
     requires starts_value { rising_below (MARKS - 1) starts.now ≡ true }
     requires arity_bound { arity ≤ 32 }
-    ensures { result ≡ well_formed arity dynamic (known starts.now) (take count (records_of index.now)) }
+    ensures { result ≡ well_formed arity dynamic (known starts.now) (records_of index.now) }
 {
     let mut marks = [0u8; MARKS];
     let mut firsts = [0u16; LINES];
     mark_starts(&mut marks, starts);
     let asked = Asked {
         marks: &marks,
-        total: count_lines(index, count),
+        total: lines_in(index),
         arity,
         dynamic,
     };
-    check_records(index, count, &asked, &mut firsts)
+    check_records(index, &asked, &mut firsts)
 }
 
 // Number 12, of the first count records of an index for checked code of n records with these starts: code of at most 2,047 records
@@ -146,9 +138,10 @@ pub fn well_formed(
     requires arity_bound { arity ≤ 32 }
     ensures { result ≡ well_formed arity dynamic (known starts.now) (take count (records_of index.now)) }
 {
+    let index = records::part(index, 0, count);
     if n <= 2047 && count <= 2048 {
-        formed_in::<2048, 2048>(index, count, starts, arity, dynamic)
+        formed_in::<2048, 2048>(index, starts, arity, dynamic)
     } else {
-        formed_in::<32769, 65535>(index, count, starts, arity, dynamic)
+        formed_in::<32769, 65535>(index, starts, arity, dynamic)
     }
 }

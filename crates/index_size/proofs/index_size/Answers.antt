@@ -31,9 +31,6 @@ overflow_cast-c c =
     let p = accepted (goal.at.overflow_cast-c c).In_ok-check_build in
     omega (arith, below a.code.now a.starts.now a.settings a.c p, small a.code.now a.starts.now a.settings a.c p)
 
-pub size_checked-requires : goal.size_checked-requires
-size_checked-requires c = accepted (goal.at.size_checked-requires c).In_ok-check_build
-
 pub returns : goal.returns
 returns c =
     let a = c.args in

@@ -12,7 +12,7 @@ use Rattle.indexing_iter.specs.Rows.{head_of}
 use Rattle.indexing_iter.proofs.Table.{class_in}
 use Rattle.indexing_iter.proofs.Parts.{slice-step, slice-done}
 use Rattle.indexing_iter.proofs.KeyLaws.{known-within}
-use Rattle.indexing_iter.proofs.FillLaws.{collected, collected-cleared, FillingStep, filling-start, filling_step, filling-end, filling-as}
+use Rattle.indexing_iter.proofs.FillLaws.{collected, FillingStep, filling-start, filling_step, filling-end, filling-as}
 use Rattle.indexing_iter.proofs.collect_keys.Goals.{After-extract_index_arg-a, in-ArgedHead-a, in_default-a}
 use Rattle.indexing_iter.proofs.collect_keys.Goals as goal
 
@@ -22,8 +22,8 @@ turn : (c : After-extract_index_arg-a)
     let a = c.args in
     FillingStep c.extract_index_arg-a.result (class_in a.reader.now.table.now) a.arity (slice (c.loop-i.i + 1) c.capacity-end.result (records_of a.reader.now.code.now))
     c.loop-i.heads c.loop-i.bits
-    (collected head_of (class_in a.reader.now.table.now) a.arity a.reader.now.code.now a.starts.now a.offset c.clear_keys.new.heads)
-    (collected bits_of (class_in a.reader.now.table.now) a.arity a.reader.now.code.now a.starts.now a.offset c.clear_keys.new.bits)
+    (collected head_of (class_in a.reader.now.table.now) a.arity a.reader.now.code.now a.starts.now a.offset c.args.heads.now)
+    (collected bits_of (class_in a.reader.now.table.now) a.arity a.reader.now.code.now a.starts.now a.offset c.args.bits.now)
 turn c =
     let rs = records_of c.args.reader.now.code.now in
     filling_step (get_or rs c.loop-i.i zero_rec) (slice (c.loop-i.i + 1) c.capacity-end.result rs) c.extract_index_arg-a.result c.loop-i.invariant.2
@@ -39,17 +39,13 @@ loop-i-init c =
       search rules,
       search rules,
       filling-start (class_in a.reader.now.table.now) a.arity a.reader.now.code.now a.starts.now a.offset _ c.requires.offset_value c.requires.starts_value c.capacity-end.ensures
-          a.heads.now a.bits.now c.clear_keys.new.heads c.clear_keys.new.bits (search rules) (search rules)
-          c.clear_keys.ensures.0 c.clear_keys.ensures.1,
+          a.heads.now a.bits.now _ _ (search rules) (search rules) (search rules) (search rules),
     )
 
 pub returns-in_default : goal.returns-in_default
 returns-in_default c =
-    let a = c.args in
-    let w = rw c.in_default.is at (turn (goal.at.returns-in_default c).After-extract_index_arg-a) in record {
-      heads_after = w.0 ∙ collected-cleared head_of (class_in a.reader.now.table.now) a.arity a.reader.now.code.now a.starts.now a.offset a.heads.now _ c.clear_keys.ensures.0;
-      bits_after = w.1 ∙ collected-cleared bits_of (class_in a.reader.now.table.now) a.arity a.reader.now.code.now a.starts.now a.offset a.bits.now _ c.clear_keys.ensures.1;
-    }
+    let w = rw c.in_default.is at (turn (goal.at.returns-in_default c).After-extract_index_arg-a) in
+    record { heads_after = w.0; bits_after = w.1 }
 
 pub overflow_sub-at : goal.overflow_sub-at
 overflow_sub-at c = let w = rw c.in-ArgedHead-a.is at (turn (goal.at.overflow_sub-at c).After-extract_index_arg-a) in
@@ -89,8 +85,5 @@ loop-i-preserved c =
 
 pub returns : goal.returns
 returns c =
-    let a = c.args in
-    let w = filling-end c.loop-i.invariant.2 (slice-done (records_of a.reader.now.code.now) _ _ c.loop-i-test.false) in record {
-      heads_after = w.0 ∙ collected-cleared head_of (class_in a.reader.now.table.now) a.arity a.reader.now.code.now a.starts.now a.offset a.heads.now _ c.clear_keys.ensures.0;
-      bits_after = w.1 ∙ collected-cleared bits_of (class_in a.reader.now.table.now) a.arity a.reader.now.code.now a.starts.now a.offset a.bits.now _ c.clear_keys.ensures.1;
-    }
+    let w = filling-end c.loop-i.invariant.2 (slice-done (records_of c.args.reader.now.code.now) _ _ c.loop-i-test.false) in
+    record { heads_after = w.0; bits_after = w.1 }

@@ -11,4 +11,4 @@ use Rattle.indexing_iter.proofs.collect_keys.Given as goal
 abbrev pub invariant-loop-i : goal.invariant-loop-i
 invariant-loop-i l = (length l.heads ≡ length l.initial.heads) × (length l.bits ≡ length l.initial.bits)
     × Filling (class_in l.reader.table.now) l.arity (slice l.i l.end (records_of l.reader.code.now)) l.heads l.bits
-    (collected head_of (class_in l.reader.table.now) l.arity l.reader.code.now l.starts l.offset l.initial.heads) (collected bits_of (class_in l.reader.table.now) l.arity l.reader.code.now l.starts l.offset l.initial.bits)
+    (collected head_of (class_in l.reader.table.now) l.arity l.reader.code.now l.starts l.offset l.fn.heads) (collected bits_of (class_in l.reader.table.now) l.arity l.reader.code.now l.starts l.offset l.fn.bits)

@@ -1,13 +1,13 @@
--- The key at an argument: the records left give the key that the whole run gives. Assumes nothing.
-use Prim.Native.Nat.{◌+◌}
+-- The key at an argument: the records left give the key that the clause gives. Assumes nothing.
+use Prim.Native.Nat.{◌+◌, ◌≤◌, ◌<◌}
 use mathlib.Core.Path.{◌≡◌}
-use borrow.Author.Rules.{rules}
+use native.Mathlib.Omega.{arith}
 use borrow.Author.Tests.{eq-eqb, ne_eqb}
 use mathlib.Core.Logic.{⊎_elim}
-use lib.Seq.{slice}
+use lib.ListN.{length, drop, drop_of_length-le}
 use Rattle.records.specs.Records.{records_of}
 use Rattle.indexing_iter.specs.Keys.{key_in, key_step}
-use Rattle.indexing_iter.proofs.Parts.{slice-step, slice-done}
+use Rattle.indexing_iter.proofs.Parts.{rest-step}
 use Rattle.indexing_iter.proofs.Table.{class_in}
 use Rattle.indexing_iter.proofs.key_by.Goals.{After-extract_index_arg-a, in-ArgedHead-a+else-reg-j, in_default-a}
 use Rattle.indexing_iter.proofs.key_by.Goals as goal
@@ -15,13 +15,13 @@ use Rattle.indexing_iter.proofs.key_by.Goals as goal
 -- in a turn: what the record at i says, and the key of the records after it, give the key
 turn : (c : After-extract_index_arg-a)
     → let a = c.args in
-    let i = c.loop-i.i in
-    key_step c.extract_index_arg-a.result a.j (key_in (class_in a.reader.now.table.now) (slice (i + 1) a.end (records_of a.reader.now.code.now)) a.j)
-    ≡ key_in (class_in a.reader.now.table.now) (slice a.start a.end (records_of a.reader.now.code.now)) a.j
+    let rs = records_of a.clause.now.code.now in
+    let cls = class_in a.clause.now.table.now in
+    key_step c.extract_index_arg-a.result a.j (key_in cls (drop (c.loop-i.i + 1) rs) a.j) ≡ key_in cls rs a.j
 unfolding key_in
-turn c = let a = c.args in
-    rw (slice-step (records_of a.reader.now.code.now) _ _ c.loop-i-test.true (search rules), ← c.extract_index_arg-a.ensures)
-    at c.loop-i.invariant
+turn c = let rs = records_of c.args.clause.now.code.now in
+    let h : c.loop-i.i < length rs = omega arith in
+    rw (rest-step rs c.loop-i.i h, ← c.extract_index_arg-a.ensures) at c.loop-i.invariant
 
 pub returns-in_default : goal.returns-in_default
 returns-in_default c = rw c.in_default.is at (turn (goal.at.returns-in_default c).After-extract_index_arg-a)
@@ -42,4 +42,6 @@ loop-i-preserved c =
 
 pub returns : goal.returns
 unfolding key_in
-returns c = rw (slice-done _ _ _ c.loop-i-test.false) at c.loop-i.invariant
+returns c = let rs = records_of c.args.clause.now.code.now in
+    let h : length rs ≤ c.loop-i.i = omega arith in
+    rw (drop_of_length-le rs h) at c.loop-i.invariant

@@ -55,8 +55,3 @@ returns c = let a = c.args in
     accepted a.code.now a.starts.now a.settings a.call.now a.index.now a.count a.out.now c.walk_index.result _ _
     (code-passed (goal.at.returns c).In_ok-program) (call-passed (goal.at.returns c).In_ok-check_call) (out-is (goal.at.returns c).In_ok-check_out) (index_is (goal.at.returns c).In_ok-check_index)
     (c.walk_index.ensures ∙ same-walk _ a.code.now _ a.starts.now _ a.settings a.call.now a.index.now a.count a.out.now made.0 made.1 made.2)
-
-pub invariant_of-query : goal.invariant_of-query
-invariant_of-query c =
-    let m = c.in_ok-program.ensures.made in
-    record { checked = rw m.2 (sym c.in_ok-check_call.ensures) }

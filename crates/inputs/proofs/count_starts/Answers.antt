@@ -9,18 +9,18 @@ use Rattle.inputs.proofs.StartLaws.{starts_more, starts-stop, starts-end}
 use Rattle.records.specs.declared.Rec.{Rec}
 use Rattle.inputs.proofs.count_starts.Goals as goal
 
-pub returns-then-get : goal.returns-then-get
-returns-then-get c =
+pub returns-then-get-from : goal.returns-then-get-from
+returns-then-get-from c =
     let l = c.loop-i in
     let e = c.get.ensures in
-    let z = starts-stop (records_of c.args.input.now) l.i (omega arith) (λ q. c.if-get.true (ap (λ (r : Rec). r.kind) e ∙ q)) in
+    let z = starts-stop (records_of c.args.input.now) l.i (omega arith) (λ q. c.if-get-from.true (ap (λ (r : Rec). r.kind) e ∙ q ∙ sym c.from.ensures)) in
     omega (arith, z, l.invariant)
 
 pub loop-i-preserved : goal.loop-i-preserved
 loop-i-preserved c =
     let l = c.loop-i in
     let e = c.get.ensures in
-    let z = starts_more (records_of c.args.input.now) l.i (omega arith) (sym (ap (λ (r : Rec). r.kind) e) ∙ c.if-get.false) in
+    let z = starts_more (records_of c.args.input.now) l.i (omega arith) (sym (ap (λ (r : Rec). r.kind) e) ∙ c.if-get-from.false ∙ c.from.ensures) in
     omega (arith, z, l.invariant)
 
 pub returns : goal.returns

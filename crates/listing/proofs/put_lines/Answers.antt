@@ -26,16 +26,7 @@ loop-i-preserved c =
       omega (arith, l.invariant.0),
       omega (arith, l.invariant.1, p.ensures.end_bound.1),
       omega (arith, c.loop-i-test.true, l.invariant.2, p.ensures.end_bound.0),
-      c.text-1.given ∙ l.invariant.3,
+      p.auto.text ∙ l.invariant.3,
       lines_more (records_of a.part.now) _ (l.i - 1) (drop l.at l.text) _ (omega (arith, c.loop-i-test.true, l.invariant.0)) c.get.ensures
           (l.invariant.4 ∙ ap (λ (k : ℕ). lines_of (drop k (records_of a.part.now)) []) (sym e)) p.ensures.text_after,
     )
-
-pub returns : goal.returns
-returns c = let a = c.args in
-    let l = c.loop-i in
-    let e : l.i ≡ 0 = omega (arith, c.loop-i-test.false) in
-    record {
-      upper_bound = l.invariant.1;
-      text_after = l.invariant.4 ∙ ap (λ (k : ℕ). lines_of (drop k (records_of a.part.now)) []) e;
-    }

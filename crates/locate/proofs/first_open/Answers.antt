@@ -1,55 +1,56 @@
--- 8 clause by clause: the first of the clauses left is the first of all. Assumes nothing.
-use Prim.Native.Nat.{ℕ, ◌+◌}
-use mathlib.Core.Path.{◌≡◌, refl, sym, ap, ◌∙◌}
-use mathlib.Core.List.{◌∷◌}
-use lib.ListN.{length, drop}
-use lib.Seq.{slice}
-use Rattle.std.specs.Prelude.{Some}
+-- The clause that is first open, and its first body record. Assumes nothing.
+use Prim.Native.Nat.{◌<◌}
+use mathlib.Core.Path.{◌≡◌, refl, ◌∙◌}
+use native.Mathlib.Omega.{arith}
+use borrow.Author.Rules.{rules}
+use lib.ListN.{length}
 use Rattle.records.specs.Records.{records_of}
-use Rattle.indexing_iter.specs.declared.Fault.{Fault}
-use Rattle.indexing_iter.specs.declared.OptArgIndexKey.{OptArgIndexKey}
 use Rattle.indexing_iter.specs.Clauses.{clauses_of}
-use Rattle.indexing_iter.specs.Keys.{is_open}
+use Rattle.indexing_iter.specs.Faults.{body_at}
+use Rattle.indexing_iter.specs.Places.{body_found}
 use Rattle.indexing_iter.proofs.Table.{class_in}
-use Rattle.indexing_iter.proofs.CheckLaws.{clauses-step, clauses-none}
-use Rattle.locate.proofs.LocateLaws.{open-start, open_more, open-here, open-none}
-use Rattle.locate.proofs.first_open.Goals.{After-is_open}
+use Rattle.indexing_iter.proofs.FaultLaws.{open-known, body-or-end, body-within, length-clauses}
+use Rattle.locate.proofs.first_open.Goals.{In_ok-k, After-unwrap_or-at}
 use Rattle.locate.proofs.first_open.Goals as goal
 
--- the clause at k, and those after it
-step : (c : After-is_open)
-    →
-    let l = c.args.c.now in
-    let rs = records_of l.reader.code.now in
-    let k = c.loop-k.k in
-    clauses_of rs (drop k l.starts.now) ≡ slice c.range-start.result.0 c.range-start.result.1 rs ∷ clauses_of rs (drop (k + 1) l.starts.now)
-step c =
-    let l = c.args.c.now in
-    let rs = records_of l.reader.code.now in
-    let r = c.range-start.ensures in
-    clauses-step rs l.starts.now (length rs) c.loop-k.k _ c.loop-k-test.true refl r.end
-    ∙ ap (λ (x : ℕ). slice x c.range-start.result.1 rs ∷ clauses_of rs (drop (c.loop-k.k + 1) l.starts.now)) (sym r.start)
+-- there is such a clause
+within : (c : In_ok-k) → c.in_ok-k.k < length c.args.c.now.starts.now
+within c =
+    let s = c.args.c.now in
+    let rs = records_of s.reader.code.now in
+    let here = open-known (class_in s.reader.table.now) c.args.j (clauses_of rs s.starts.now) c.in_ok-k.k c.in_ok-k.ensures in
+    omega (arith, here.2, length-clauses rs s.starts.now)
 
-pub loop-k-init : goal.loop-k-init
-loop-k-init c = let l = c.args.c.now in
-    open-start (class_in l.reader.table.now) c.args.j (records_of l.reader.code.now) l.starts.now
+pub clause-clause-requires : goal.clause-clause-requires
+clause-clause-requires c = within (goal.at.clause-clause-requires c).In_ok-k
 
-pub loop-k-preserved : goal.loop-k-preserved
-loop-k-preserved c =
-    let l = c.args.c.now in
-    let at = (goal.at.loop-k-preserved c).After-is_open in
-    open_more (class_in l.reader.table.now) c.args.j (records_of l.reader.code.now) l.starts.now c.loop-k.k _ c.loop-k.invariant (step at)
-    (ap (λ (x : OptArgIndexKey). is_open x) (sym c.key_by.ensures) ∙ sym c.is_open.ensures ∙ c.if-is_open.false)
+pub bounds-c-k : goal.bounds-c-k
+bounds-c-k c = within (goal.at.bounds-c-k c).In_ok-k
+
+pub offset_bounds-c-k : goal.offset_bounds-c-k
+offset_bounds-c-k c = let h : c.in_ok-k.k < length c.args.c.now.starts.now = within (goal.at.offset_bounds-c-k c).In_ok-k in search rules
+
+-- its place is that of the clause's first body record
+place : (c : After-unwrap_or-at) → let one = c.clause-clause.result in
+    c.unwrap_or-at.result ≡ body_at (class_in one.table.now) (records_of one.code.now)
+place c =
+    let one = c.clause-clause.result in
+    let rs = records_of one.code.now in
+    let cls = class_in one.table.now in
+    let found : c.body_at.result ≡ body_found cls rs = c.body_at.ensures in
+    c.unwrap_or-at.ensures ∙ rw (found, c.capacity.ensures) (body-or-end cls rs)
+
+pub overflow_add-result : goal.overflow_add-result
+overflow_add-result c =
+    let one = c.clause-clause in
+    let at = (goal.at.overflow_add-result c).After-unwrap_or-at in
+    omega (arith, one.ensures.places_in_range, place at, body-within (class_in one.result.table.now) (records_of one.result.code.now))
 
 pub returns : goal.returns
-returns c = let l = c.args.c.now in
-    open-none (class_in l.reader.table.now) c.args.j l.arity (records_of l.reader.code.now) l.starts.now c.loop-k.k c.loop-k.invariant
-    (clauses-none (records_of l.reader.code.now) l.starts.now c.loop-k.k c.loop-k-test.false)
-
-pub returns-then-is_open : goal.returns-then-is_open
-returns-then-is_open c =
-    let l = c.args.c.now in
-    let at = (goal.at.returns-then-is_open c).After-is_open in
-    ap (λ (f : Fault). Some f) c.fault_at.ensures
-    ∙ open-here (class_in l.reader.table.now) c.args.j (records_of l.reader.code.now) l.starts.now c.loop-k.k _ l.arity c.loop-k.invariant (step at)
-    (ap (λ (x : OptArgIndexKey). is_open x) (sym c.key_by.ensures) ∙ sym c.is_open.ensures ∙ c.if-is_open.true)
+returns c =
+    let s = c.args.c.now in
+    let cs = clauses_of (records_of s.reader.code.now) s.starts.now in
+    let one = c.clause-clause in
+    let here = open-known (class_in s.reader.table.now) c.args.j cs c.in_ok-k.k c.in_ok-k.ensures in
+    let at = rw (one.ensures.classes, one.ensures.records) at (place (goal.at.returns c).After-unwrap_or-at) in
+    rw (here.0, here.1, at) refl

@@ -6,4 +6,4 @@ use Rattle.podrulka.proofs.podrulka_witness.Goals as goal
 
 pub returns-clause-found : goal.returns-clause-found
 unfolding Found
-returns-clause-found c = rw (← c.settings_by-settings.ensures) (c.witness-a.result, c.witness-a.ensures, grind (arith, common_steps))
+returns-clause-found c = rw (← c.from_flags-settings.ensures) (c.witness-a.result, c.witness-a.ensures, grind (arith, common_steps))

@@ -1,9 +1,8 @@
 -- Call number i, empty past the last. Assumes nothing.
 use mathlib.Core.Path.{ap, ◌∙◌}
 use Prim.Native.Nat.{ℕ, ◌+◌, ◌*◌, min}
-use native.Mathlib.Omega.{arith}
 use Rattle.walk_inputs.specs.Plan.{part_of}
-use Rattle.walk_inputs.proofs.PartLaws.{place-below, call-as, call_none}
+use Rattle.walk_inputs.proofs.PartLaws.{call-as, call_none}
 use borrow.Author.Rules.{rules}
 use Rattle.walk_inputs.proofs.call_part.Goals as goal
 
@@ -11,19 +10,6 @@ pub returns-then-input-i : goal.returns-then-input-i
 returns-then-input-i c =
     let a = c.args.input.now in
     c.part_of.ensures ∙ call_none a.bytes.now a.plan a.step c.args.i a.plan_value a.step_value (search rules) (search rules)
-
-pub overflow_mul-from : goal.overflow_mul-from
-overflow_mul-from c = let a = c.args.input.now in
-    omega (arith, place-below c.args.i a.step 65536 (omega arith) (omega arith) (search rules))
-
-pub overflow_add-input : goal.overflow_add-input
-overflow_add-input c = let a = c.args.input.now in
-    omega (arith, place-below c.args.i a.step 65536 (omega arith) (omega arith) (search rules))
-
-pub part_of-requires-2 : goal.part_of-requires-2
-part_of-requires-2 c = let a = c.args.input.now in
-    let b = place-below c.args.i a.step 65536 (omega arith) (omega arith) (search rules) in
-    (omega arith, omega arith)
 
 pub returns : goal.returns
 returns c = let a = c.args.input.now in

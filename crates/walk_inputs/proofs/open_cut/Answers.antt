@@ -7,21 +7,21 @@ use Rattle.walk_inputs.proofs.RunLaws.{open-given, open-built, open-refused}
 use borrow.Author.Rules.{rules}
 use Rattle.walk_inputs.proofs.open_cut.Goals as goal
 
-pub returns-then-input : goal.returns-then-input
-returns-then-input c =
+pub returns-in-Some : goal.returns-in-Some
+returns-in-Some c =
     let a = c.args.input.now in
     let z : c.fill.new.self ≡ replicate {A = ℕ} (length c.args.out.now) 0 = search rules in
-    open-given a.bytes.now a.plan a.plan_value _ (z ∙ ap (λ (n : ℕ). replicate {A = ℕ} n 0) c.requires.out_len.0) _ c.if-input.true c.start_index.ensures
+    open-given a.bytes.now a.plan a.plan_value _ (z ∙ ap (λ (n : ℕ). replicate {A = ℕ} n 0) c.requires.out_len.0) _ _ c.in-Some.is c.start_index.ensures
 
-pub returns-in_err-built : goal.returns-in_err-built
-returns-in_err-built c =
+pub returns-in_err-build_index-in-None : goal.returns-in_err-build_index-in-None
+returns-in_err-build_index-in-None c =
     let a = c.args.input.now in
     let z : c.fill.new.self ≡ replicate {A = ℕ} (length c.args.out.now) 0 = search rules in
     let p = err_from_is_err_and c.from_residual.result c.from_residual.ensures.1 in
-    rw (p.1, p.2) (open-refused a.bytes.now a.plan a.plan_value _ (z ∙ ap (λ (n : ℕ). replicate {A = ℕ} n 0) c.requires.out_len.0) _ _ _ c.if-input.false c.start_index.ensures c.in_err-built.ensures)
+    rw (p.1, p.2) (open-refused a.bytes.now a.plan a.plan_value _ (z ∙ ap (λ (n : ℕ). replicate {A = ℕ} n 0) c.requires.out_len.0) _ _ _ c.in-None.is c.start_index.ensures c.in_err-build_index-in-None.ensures)
 
-pub returns : goal.returns
-returns c =
+pub returns-in_ok-build_index-in-None : goal.returns-in_ok-build_index-in-None
+returns-in_ok-build_index-in-None c =
     let a = c.args.input.now in
     let z : c.fill.new.self ≡ replicate {A = ℕ} (length c.args.out.now) 0 = search rules in
-    open-built a.bytes.now a.plan a.plan_value _ (z ∙ ap (λ (n : ℕ). replicate {A = ℕ} n 0) c.requires.out_len.0) _ _ _ c.if-input.false c.start_index.ensures c.in_ok-built.ensures
+    open-built a.bytes.now a.plan a.plan_value _ (z ∙ ap (λ (n : ℕ). replicate {A = ℕ} n 0) c.requires.out_len.0) _ _ _ c.in-None.is c.start_index.ensures c.in_ok-build_index-in-None.ensures

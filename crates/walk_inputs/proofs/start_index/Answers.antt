@@ -1,17 +1,9 @@
 -- The index that a run begins with. Assumes nothing.
 use mathlib.Core.Path.{ap, ◌∙◌}
 use Prim.Native.Nat.{ℕ, ◌+◌}
-use native.Mathlib.Omega.{arith}
-use lib.ListN.{length}
 use Rattle.walk_inputs.specs.Plan.{part_of}
-use Rattle.walk_inputs.proofs.PartLaws.{part_length}
 use Rattle.walk_inputs.proofs.RunLaws.{start-as}
 use Rattle.walk_inputs.proofs.start_index.Goals as goal
-
-pub fill_index-requires : goal.fill_index-requires
-fill_index-requires c = let a = c.args.input.now in
-    let l = c.min in
-    omega (arith, ap length c.part_of-run.ensures, part_length a.bytes.now (a.plan.place + a.plan.calls) l.result, l.ensures, c.requires)
 
 pub returns : goal.returns
 returns c =

@@ -1,10 +1,10 @@
--- A call of what is read. Assumes nothing.
-use mathlib.Core.Path.{ap, ◌∙◌}
-use mathlib.Core.List.{List}
-use Prim.Native.Nat.{ℕ}
-use Rattle.walk_inputs.specs.Run.{walk_in}
+-- The walk of what is read, in the front of the buffers. Assumes nothing.
+use Rattle.walk_inputs.proofs.RunLaws.{walked-run}
 use Rattle.walk_inputs.proofs.walk_call.Goals as goal
 
 pub returns : goal.returns
 returns c = let a = c.args in
-    c.walk_parts.ensures ∙ ap (λ (h : List ℕ). walk_in h a.i a.index.now a.count a.out.now) c.read.ensures
+    let r = c.read-input in
+    let e = c.run_cut.ensures in
+    walked-run c.run_cut.result _ r.result.bytes.now r.result.plan a.i a.count _ _ _ _ a.index.now a.out.now _ _ e.leaves_index e.leaves_out e.shows_index e.shows_out
+    e.met r.result.plan_value r.ensures

@@ -18,5 +18,6 @@ returns c =
     let w = c.put_word.ensures in
     let g : length c.args.text.now ≤ 106 = omega (arith, c) in record {
       upper_bound = omega (arith, n.end_bound, m.word_value, t.end_bound, k.end_bound, l.end_bound, w.word_value, c.mark_word.ensures.len_bound, c.case_word.ensures.len_bound);
-      text_after = ended-parts c.args.e _ _ _ _ _ _ [] (n.text_after ∙ ap (decimal c.args.e.records) (drop_of_length-le c.args.text.now g)) (rw c.mark_word.ensures.value at m.text_after) t.text_after k.text_after l.text_after (rw c.case_word.ensures.value at w.text_after);
+      text_after = ended-parts c.args.e _ _ _ _ _ _ [] (n.text_after ∙ ap (decimal c.args.e.records) (drop_of_length-le c.args.text.now g)) (rw c.mark_word.ensures.value at m.text_after) (rw c.from.ensures at t.text_after)
+          k.text_after (rw c.from-2.ensures at l.text_after) (rw c.case_word.ensures.value at w.text_after);
     }

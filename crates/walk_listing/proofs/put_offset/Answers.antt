@@ -10,5 +10,5 @@ pub returns : goal.returns
 returns c =
     let p = c.put_number-at in record {
       end_bound = (omega (arith, c, p.ensures.end_bound), omega (arith, p.ensures.end_bound));
-      text_after = put-before p.new.text p.result 32 (omega (arith, c, p.ensures.end_bound)) (omega (arith, c, p.ensures.end_bound, c.text-1.given)) ∙ ap (λ (x : List ℕ). 32 ∷ x) p.ensures.text_after;
+      text_after = put-before p.new.text p.result 32 (omega (arith, c, p.ensures.end_bound)) (omega (arith, c, p.ensures.end_bound, p.auto.text)) ∙ ap (λ (x : List ℕ). 32 ∷ x) (rw c.from.ensures at p.ensures.text_after);
     }

@@ -5,13 +5,18 @@ use Rattle.index_writer.proofs.BucketLaws.{sizes-length, size-at}
 use borrow.Author.Rules.{rules}
 use Rattle.index_writer.proofs.buckets.needs_line.Goals as goal
 
-pub bounds-columns-i : goal.bounds-columns-i
-bounds-columns-i c =
-    let d = c.args.columns.now in
-    omega (arith, sizes-length d.clauses.leaders.now d.sizes.now d.sizes_value)
+pub bounds-buckets-i : goal.bounds-buckets-i
+bounds-buckets-i c =
+    let d = c.args.buckets.now in
+    omega (arith, sizes-length d.heads.leaders.now d.sizes.now d.sizes_value)
 
-pub returns-else-dynamic : goal.returns-else-dynamic
+pub returns-else-buckets : goal.returns-else-buckets
 unfolding needs_line
-returns-else-dynamic c =
-    let d = c.args.columns.now in
-    simp (size-at d.clauses.leaders.now d.sizes.now d.sizes_value c.args.i (search rules), c.if-dynamic.false)
+returns-else-buckets c =
+    let d = c.args.buckets.now in
+    simp (size-at d.heads.leaders.now d.sizes.now d.sizes_value c.args.i (search rules), c.if-buckets.false)
+
+pub offset_bounds-buckets-i : goal.offset_bounds-buckets-i
+offset_bounds-buckets-i c =
+    let d = c.args.buckets.now in
+    omega (arith, c, sizes-length d.heads.leaders.now d.sizes.now d.sizes_value)

@@ -2,28 +2,29 @@
 use mathlib.Core.Path.{◌≡◌, ap}
 use Prim.Native.Nat.{ℕ, ◌+◌}
 use native.Mathlib.Omega.{arith}
-use Rattle.indexing.specs.Columns.{lines_to, entry_at, entries}
+use Rattle.indexing.specs.Columns.{lines_to, entries}
 use Rattle.indexing_iter.specs.Groups.{group_number}
 use Rattle.index_writer.proofs.Gather.{gather-start, gather-room, gather-more, gather-end}
 use Rattle.index_writer.proofs.BucketLaws.{lines_start, lines_step, lines-le, distance-at, distance-grown}
+use Rattle.index_writer.specs.Written.{entry_by}
 use Rattle.index_writer.proofs.buckets.put_entries.Goals.{In-loop-i}
 use Rattle.index_writer.proofs.buckets.put_entries.Goals as goal
 
 -- what turn i writes, k its line among the new ones
 entry : (c : In-loop-i)
     → let a = c.args in
-    entry_at a.columns.now.clauses.leaders.now a.columns.now.heads.now a.columns.now.bits.now a.columns.now.clauses.offs.now a.dynamic (group_number a.g) (c.loop-i.k + a.by) c.loop-i.i
-    ≡ entry_at a.columns.now.clauses.leaders.now a.columns.now.heads.now a.columns.now.bits.now a.columns.now.clauses.offs.now a.dynamic (group_number a.g)
-    (a.d + a.by + lines_to a.columns.now.clauses.leaders.now a.columns.now.heads.now a.dynamic (group_number a.g) c.loop-i.i) c.loop-i.i
+    entry_by a.entries.now a.g (c.loop-i.k + a.by) c.loop-i.i
+    ≡ entry_by a.entries.now a.g
+    (a.d + a.by + lines_to a.entries.now.buckets.heads.leaders.now a.entries.now.buckets.heads.heads.now a.entries.now.buckets.heads.dynamic (group_number a.g) c.loop-i.i) c.loop-i.i
 entry c = let a = c.args in
-    ap (λ (x : ℕ). entry_at a.columns.now.clauses.leaders.now a.columns.now.heads.now a.columns.now.bits.now a.columns.now.clauses.offs.now a.dynamic (group_number a.g) x c.loop-i.i) (distance-grown a.d a.by _ c.loop-i.invariant.0)
+    ap (λ (x : ℕ). entry_by a.entries.now a.g x c.loop-i.i) (distance-grown a.d a.by _ c.loop-i.invariant.0)
 
 pub loop-i-init : goal.loop-i-init
 unfolding entries
 loop-i-init c =
     let a = c.args in (
-      lines_start a.columns.now.clauses.leaders.now a.columns.now.heads.now a.dynamic (group_number a.g) a.d,
-      lines-le a.columns.now.clauses.leaders.now a.columns.now.heads.now a.dynamic (group_number a.g) 0,
+      lines_start a.entries.now.buckets.heads.leaders.now a.entries.now.buckets.heads.heads.now a.entries.now.buckets.heads.dynamic (group_number a.g) a.d,
+      lines-le a.entries.now.buckets.heads.leaders.now a.entries.now.buckets.heads.heads.now a.entries.now.buckets.heads.dynamic (group_number a.g) 0,
       gather-start _ _ a.index.now a.p c.requires.by_in_bounds,
     )
 
@@ -39,8 +40,8 @@ pub loop-i-preserved : goal.loop-i-preserved
 loop-i-preserved c = let l = c.loop-i in
     let a = c.args in
     let w = c.put_entry-q in (
-      omega (arith, c.line_step-k.ensures.0, lines_step a.columns.now.clauses.leaders.now a.columns.now.heads.now a.dynamic (group_number a.g) l.i),
-      lines-le a.columns.now.clauses.leaders.now a.columns.now.heads.now a.dynamic (group_number a.g) (l.i + 1),
+      omega (arith, rw c.from.ensures at c.line_step-k.ensures.0, lines_step a.entries.now.buckets.heads.leaders.now a.entries.now.buckets.heads.heads.now a.entries.now.buckets.heads.dynamic (group_number a.g) l.i),
+      lines-le a.entries.now.buckets.heads.leaders.now a.entries.now.buckets.heads.heads.now a.entries.now.buckets.heads.dynamic (group_number a.g) (l.i + 1),
       gather-more w.new.index w.result _ l.invariant.2 c.loop-i-test.true (entry (goal.at.loop-i-preserved c).In-loop-i) w.auto.index w.ensures,
     )
 

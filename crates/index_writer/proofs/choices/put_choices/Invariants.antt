@@ -6,4 +6,4 @@ use Rattle.index_writer.proofs.LineLaws.{choice_of}
 use Rattle.index_writer.proofs.choices.put_choices.Given as goal
 
 abbrev pub invariant-loop-j : goal.invariant-loop-j
-invariant-loop-j l = (l.all ≡ length l.clauses.leaders.now) × (l.n ≡ size_of l.clauses.leaders.now l.i) × Gathered (choice_of l.clauses.leaders.now l.clauses.offs.now l.clauses.tags.now l.settings.dynamic l.settings.non_counted l.i) l.all l.initial.index l.p l.j l.q l.index
+invariant-loop-j l = (l.n ≡ size_of l.choices.leaders.now l.i) × Gathered (choice_of l.choices.leaders.now l.choices.offs.now l.choices.tags.now l.settings.dynamic l.settings.non_counted l.i) (length l.choices.leaders.now) l.initial.index l.p l.j l.q l.index

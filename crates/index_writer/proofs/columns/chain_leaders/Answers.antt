@@ -2,7 +2,7 @@
 use mathlib.Core.Path.{sym, ◌∙◌}
 use native.Mathlib.Omega.{arith}
 use borrow.Author.Rules.{rules}
-use lib.ListN.{length, get_or-replicate}
+use lib.ListN.{length}
 use Rattle.records.proofs.Filled.{fill_start, fill_more}
 use Rattle.indexing.specs.Columns.{leaders_to}
 use Rattle.index_writer.specs.Chains.{leads_in}
@@ -15,7 +15,7 @@ loop-j-init c = let s = c.args in
     let h = s.keys.now.heads.now in
     let b = s.keys.now.bits.now in
     let l = length-leaders h b (length h) in
-    (l, fill_start (leaders_to h b (length h)) s.leaders.now (omega arith), chained-none (leads_in h b) _ _ (λ d k. get_or-replicate 1021 d 0 0 k))
+    (l, fill_start (leaders_to h b (length h)) s.leaders.now (omega arith), chained-none (leads_in h b) _ _ (λ d k. c.new-chains.ensures d))
 
 pub next_leader-requires : goal.next_leader-requires
 next_leader-requires c = let l = c.loop-j in
@@ -25,10 +25,10 @@ next_leader-requires c = let l = c.loop-j in
     }
 
 pub loop-j-preserved : goal.loop-j-preserved
-loop-j-preserved c = let n = c.next_leader in
+loop-j-preserved c = let h = c.args.keys.now.heads.now in
+    let n = c.next_leader in
     let l = c.loop-j in
-    let t = c.loop-j-test.true in
-    (l.invariant.0, fill_more _ 0 l.invariant.1 (omega arith) (get_or-leaders _ _ _ _ t ∙ sym n.ensures.value), n.ensures.chained_2)
+    (l.invariant.0, fill_more _ 0 l.invariant.1 (omega arith) (get_or-leaders h c.args.keys.now.bits.now (length h) l.j (search rules) ∙ sym n.ensures.value), n.ensures.chained_2)
 
 pub returns : goal.returns
 returns c = let l = c.loop-j in

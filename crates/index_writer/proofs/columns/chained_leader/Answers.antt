@@ -1,21 +1,32 @@
--- The leaders before the present one of the chain tell which leads clause j: clauses passed over lead none of its bucket. Assumes nothing.
-use mathlib.Core.Path.{sym, ◌∙◌}
-use Prim.Native.Nat.{◌-◌}
+-- What the leaders of the clause's bucket answer: one with its key leads it; where none has it the clause leads itself. Assumes nothing.
+use mathlib.Core.Path.{◌≡◌}
+use mathlib.Core.Bool.{true}
+use Prim.Native.Nat.{◌<◌}
 use native.Mathlib.Omega.{arith}
-use Rattle.index_writer.proofs.LeaderLaws.{leader-found, leader-own, leader-start, leader-next}
+use borrow.Author.Rules.{rules}
+use Rattle.indexing.specs.Columns.{same_at}
+use Rattle.index_writer.specs.Chains.{leads_in}
+use Rattle.index_writer.proofs.LeaderLaws.{leader-found, leader-own}
+use Rattle.index_writer.proofs.columns.chained_leader.Goals.{In-Found}
 use Rattle.index_writer.proofs.columns.chained_leader.Goals as goal
 
-pub loop-init : goal.loop-init
-loop-init c = leader-start _ _ _ _ _ c.requires.bucket_value.0 _ c.requires.chained (omega (arith, c.requires.bucket_value.1))
+found : (c : In-Found)
+    →
+    let k = c.args.keys.now in
+    let i = c.in-Found.i in
+    (i < c.args.j) × (leads_in k.heads.now k.bits.now c.args.bucket i ≡ true) × (same_at k.heads.now k.bits.now i c.args.j ≡ true)
+found c =
+    let k = c.args.keys.now in
+    rw c.in-Found.is at c.find.ensures _ _ (λ i. same_at k.heads.now k.bits.now i c.args.j) c.requires.chained (λ i b l e. search rules)
 
-pub returns-then-number-eq0 : goal.returns-then-number-eq0
-returns-then-number-eq0 c = leader-own _ _ _ _ _ _ c.if-number-eq0.true c.loop.invariant
+pub overflow_cast-result : goal.overflow_cast-result
+overflow_cast-result c = omega (arith, (found c).0, c.requires.j_in_bounds, c.args.keys.now.few)
 
-pub returns-then-same_at : goal.returns-then-same_at
-returns-then-same_at c =
-    leader-found _ _ _ _ _ _ (c.loop.number - 1) (omega (arith, c.if-number-eq0)) c.loop.invariant (sym c.same_at.ensures ∙ c.if-same_at.true)
+pub returns-in-Found : goal.returns-in-Found
+returns-in-Found c = leader-found _ _ _ _ _ (found c).1 (found c).2
 
-pub loop-preserved : goal.loop-preserved
-loop-preserved c =
-    leader-next _ _ _ _ _ c.requires.bucket_value.0 _ c.requires.chained _ (c.loop.number - 1) (omega (arith, c.if-number-eq0)) c.loop.invariant
-    (sym c.same_at.ensures ∙ c.if-same_at.false)
+pub returns-in-Nowhere : goal.returns-in-Nowhere
+returns-in-Nowhere c =
+    let k = c.args.keys.now in
+    leader-own _ _ _ _ c.requires.bucket_value.0
+    (rw c.in-Nowhere.is at c.find.ensures _ _ (λ i. same_at k.heads.now k.bits.now i c.args.j) c.requires.chained (λ i b l e. search rules))

@@ -8,7 +8,7 @@ use Rattle.indexing.specs.Upto.{bit}
 use native.Mathlib.Omega.{arith}
 use Rattle.records.proofs.Filled.{fill_start, fill_more}
 use Rattle.index_writer.specs.Choices.{open_numbers}
-use Rattle.index_writer.proofs.ColumnLaws.{fill-whole, length-open, get_or-open}
+use Rattle.index_writer.proofs.ColumnLaws.{length-open, get_or-open}
 use borrow.Author.Rules.{rules}
 use Rattle.index_writer.proofs.columns.put_open_row.Goals.{After-from, then-b-n, else-b-n}
 use Rattle.index_writer.proofs.columns.put_open_row.Goals as goal
@@ -33,7 +33,3 @@ loop-b-preserved c =
       c.loop-b.invariant.1,
       fill_more _ 0 c.loop-b.invariant.2 (omega arith) (get_or-open a.heads.now a.arity c.loop-b.b (search rules) ∙ sym (open-is (goal.at.loop-b-preserved c).After-from)),
     )
-
-pub returns : goal.returns
-returns c = let l = c.loop-b in
-    fill-whole l.invariant.2 (omega arith) (omega arith)

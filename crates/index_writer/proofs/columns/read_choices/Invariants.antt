@@ -9,5 +9,5 @@ use Rattle.index_writer.specs.Choices.{subs_of}
 use Rattle.index_writer.proofs.columns.read_choices.Given as goal
 
 abbrev pub invariant-loop-i : goal.invariant-loop-i
-invariant-loop-i l = let S = slice l.q (l.q + l.m) (records_of l.index) in
-    (length (words_of S) ≡ l.m) × (length (subs_of S) ≡ l.m) × Filled (words_of S) l.initial.offs l.offs l.i × Filled (subs_of S) l.initial.tags l.tags l.i
+invariant-loop-i l = let S = slice l.q (l.q + length l.initial.offs) (records_of l.index) in
+    (length (words_of S) ≡ length l.initial.offs) × (length (subs_of S) ≡ length l.initial.offs) × Filled (words_of S) l.initial.offs l.offs l.i × Filled (subs_of S) l.initial.tags l.tags l.i

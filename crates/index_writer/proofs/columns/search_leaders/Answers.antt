@@ -1,6 +1,7 @@
 -- The leaders of the first j clauses stand. Assumes nothing.
 use mathlib.Core.Path.{sym, ◌∙◌}
 use native.Mathlib.Omega.{arith}
+use borrow.Author.Rules.{rules}
 use lib.ListN.{length}
 use Rattle.records.proofs.Filled.{fill_start, fill_more}
 use Rattle.indexing.specs.Columns.{leaders_to}
@@ -15,8 +16,9 @@ loop-j-init c = let s = c.args in
     (l, fill_start (leaders_to h b (length h)) s.leaders.now (omega arith))
 
 pub loop-j-preserved : goal.loop-j-preserved
-loop-j-preserved c = let l = c.loop-j in
-    (l.invariant.0, fill_more _ 0 l.invariant.1 (omega arith) (get_or-leaders _ _ _ _ c.loop-j-test.true ∙ sym c.leader_of.ensures))
+loop-j-preserved c = let h = c.args.keys.now.heads.now in
+    let l = c.loop-j in
+    (l.invariant.0, fill_more _ 0 l.invariant.1 (omega arith) (get_or-leaders h c.args.keys.now.bits.now (length h) l.j (search rules) ∙ sym c.leader_of.ensures))
 
 pub returns : goal.returns
 returns c = let l = c.loop-j in

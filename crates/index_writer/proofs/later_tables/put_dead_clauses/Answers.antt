@@ -1,6 +1,5 @@
 -- `later_tables::put_dead_clauses` writes the dead clauses of a bucket: turn j writes that of clause j, if it is open. Assumes nothing.
 use mathlib.Core.Path.{refl}
-use native.Mathlib.Omega.{arith}
 use Rattle.indexing.specs.Columns.{dead_clauses}
 use Rattle.index_writer.proofs.Gather.{gather-start, gather-room, gather-more, gather-end}
 use Rattle.index_writer.proofs.later_tables.put_dead_clauses.Goals as goal
@@ -8,19 +7,19 @@ use Rattle.index_writer.proofs.later_tables.put_dead_clauses.Goals as goal
 pub loop-j-init : goal.loop-j-init
 unfolding dead_clauses
 loop-j-init c = let a = c.args in
-    (refl, gather-start _ _ a.index.now a.p c.requires.b_in_bounds)
+    gather-start _ _ a.index.now a.p c.requires
 
 pub put_dead_clause-q-requires : goal.put_dead_clause-q-requires
 put_dead_clause-q-requires c =
     record {
-      le_b = omega arith;
-      j_in_bounds = gather-room _ c.loop-j.invariant.1 c.loop-j-test.true refl;
+      j_bound = c.loop-j-test.true;
+      j_in_bounds = gather-room _ c.loop-j.invariant c.loop-j-test.true refl;
     }
 
 pub loop-j-preserved : goal.loop-j-preserved
 loop-j-preserved c = let w = c.put_dead_clause-q in
-    (refl, gather-more w.new.index w.result _ c.loop-j.invariant.1 c.loop-j-test.true refl w.auto.index w.ensures)
+    gather-more w.new.index w.result _ c.loop-j.invariant c.loop-j-test.true refl w.auto.index w.ensures
 
 pub returns : goal.returns
 unfolding dead_clauses
-returns c = gather-end c.loop-j.invariant.1 c.loop-j-test.false
+returns c = gather-end c.loop-j.invariant c.loop-j-test.false

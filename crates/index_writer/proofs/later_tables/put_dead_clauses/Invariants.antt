@@ -1,4 +1,3 @@
-use mathlib.Core.Path.{◌≡◌}
 use mathlib.Core.Bool.{cond}
 use mathlib.Core.List.{[], ◌∷◌}
 use lib.ListN.{length, get_or}
@@ -8,5 +7,4 @@ use Rattle.index_writer.proofs.Gather.{Gathered}
 use Rattle.index_writer.proofs.later_tables.put_dead_clauses.Given as goal
 
 abbrev pub invariant-loop-j : goal.invariant-loop-j
-invariant-loop-j l = (l.n ≡ length l.clauses.leaders.now)
-    × Gathered (λ j. cond (open_member l.clauses.leaders.now l.clauses.opens.now l.clauses.offs.now l.i l.b j) (rec_of 7 0 0 (get_or l.clauses.offs.now j 0) 0 ∷ []) []) l.n l.initial.index l.p l.j l.q l.index
+invariant-loop-j l = Gathered (λ j. cond (open_member l.tables.opens.leaders.now l.tables.opens.opens.now l.tables.offs.now l.i l.b.number j) (rec_of 7 0 0 (get_or l.tables.offs.now j 0) 0 ∷ []) []) (length l.tables.opens.leaders.now) l.initial.index l.p l.j l.q l.index

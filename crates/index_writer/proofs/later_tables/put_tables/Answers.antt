@@ -1,6 +1,5 @@
 -- `later_tables::put_tables` writes the tables of a line: turn t writes that for argument b + t. Assumes nothing.
 use mathlib.Core.Path.{refl}
-use native.Mathlib.Omega.{arith}
 use Rattle.indexing.specs.Columns.{tables_at}
 use Rattle.index_writer.proofs.Gather.{gather-start, gather-room, gather-more, gather-end}
 use Rattle.index_writer.proofs.later_tables.put_tables.Goals as goal
@@ -12,10 +11,7 @@ loop-t-init c = let a = c.args in
 
 pub put_table-q-requires : goal.put_table-q-requires
 put_table-q-requires c =
-    record {
-      le_b = omega arith;
-      b_in_bounds = gather-room _ c.loop-t.invariant c.loop-t-test.true refl;
-    }
+    gather-room _ c.loop-t.invariant c.loop-t-test.true refl
 
 pub loop-t-preserved : goal.loop-t-preserved
 loop-t-preserved c = let w = c.put_table-q in

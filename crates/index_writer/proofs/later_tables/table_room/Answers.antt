@@ -7,21 +7,21 @@ use Rattle.index_writer.proofs.later_tables.table_room.Goals as goal
 
 pub returns-then-masked-clause-by_index : goal.returns-then-masked-clause-by_index
 returns-then-masked-clause-by_index c = let a = c.args in
-    λ offs. sym (ap length (table-masked a.clauses.now.leaders.now a.clauses.now.opens.now a.i a.b offs a.settings.mask a.settings.extensible (sym c.masked.ensures ∙ c.if-masked.true)))
+    λ offs. sym (ap length (table-masked a.opens.now.leaders.now a.opens.now.opens.now a.i a.b.number offs a.settings.mask a.settings.extensible (sym c.masked.ensures ∙ c.if-masked.true)))
 
 pub returns-then-settings-clause-by_index : goal.returns-then-settings-clause-by_index
 returns-then-settings-clause-by_index c = let a = c.args in
     let e = sym c.masked.ensures ∙ c.if-masked.false in
-    let f = sym c.any_open.ensures ∙ c.if-not-any_open.false in λ offs. omega (arith, ap length (table-dead a.clauses.now.leaders.now a.clauses.now.opens.now a.i a.b offs a.settings.mask a.settings.extensible e f c.if-settings.true), length-dead a.clauses.now.leaders.now a.clauses.now.opens.now a.i a.b offs, c.count_open.ensures.value)
+    let f = sym c.any_open.ensures ∙ c.if-not-any_open.false in λ offs. omega (arith, ap length (table-dead a.opens.now.leaders.now a.opens.now.opens.now a.i a.b.number offs a.settings.mask a.settings.extensible e f c.if-settings.true), length-dead a.opens.now.leaders.now a.opens.now.opens.now a.i a.b.number offs, c.count_open.ensures.value)
 
 pub returns-else-settings-clause-by_index : goal.returns-else-settings-clause-by_index
 returns-else-settings-clause-by_index c = let a = c.args in
     let e = sym c.masked.ensures ∙ c.if-masked.false in
     let f = sym c.any_open.ensures ∙ c.if-not-any_open.false in
-    λ offs. sym (ap length (table_none a.clauses.now.leaders.now a.clauses.now.opens.now a.i a.b offs a.settings.mask a.settings.extensible e f c.if-settings.false))
+    λ offs. sym (ap length (table_none a.opens.now.leaders.now a.opens.now.opens.now a.i a.b.number offs a.settings.mask a.settings.extensible e f c.if-settings.false))
 
 pub returns-then-not-any_open-clause-by_index : goal.returns-then-not-any_open-clause-by_index
 returns-then-not-any_open-clause-by_index c = let a = c.args in
     let e = sym c.masked.ensures ∙ c.if-masked.false in
     let f = sym c.any_open.ensures ∙ c.if-not-any_open.true in
-    λ offs. sym (ap length (table-demand a.clauses.now.leaders.now a.clauses.now.opens.now a.i a.b offs a.settings.mask a.settings.extensible e f))
+    λ offs. sym (ap length (table-demand a.opens.now.leaders.now a.opens.now.opens.now a.i a.b.number offs a.settings.mask a.settings.extensible e f))

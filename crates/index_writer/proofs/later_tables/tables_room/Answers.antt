@@ -21,7 +21,7 @@ loop-t-preserved c =
         arith,
         c.loop-t.invariant.2 offs,
         c.table_room-room.ensures.by_index offs,
-        length_more (λ t. table_at a.clauses.now.leaders.now a.clauses.now.opens.now offs a.settings.mask a.settings.extensible a.i (a.b + t)) c.loop-t.t,
+        length_more (λ t. table_at a.opens.now.leaders.now a.opens.now.opens.now offs a.settings.mask a.settings.extensible a.i (a.b + t)) c.loop-t.t,
       ),
     )
 
@@ -29,4 +29,4 @@ pub returns-clause-by_index : goal.returns-clause-by_index
 unfolding tables_at
 returns-clause-by_index c =
     let a = c.args in
-    let e : c.loop-t.t ≡ a.k = omega arith in λ offs. c.loop-t.invariant.2 offs ∙ ap (λ (x : ℕ). length (list_to (λ t. table_at a.clauses.now.leaders.now a.clauses.now.opens.now offs a.settings.mask a.settings.extensible a.i (a.b + t)) x)) e
+    let e : c.loop-t.t ≡ a.k = omega arith in λ offs. c.loop-t.invariant.2 offs ∙ ap (λ (x : ℕ). length (list_to (λ t. table_at a.opens.now.leaders.now a.opens.now.opens.now offs a.settings.mask a.settings.extensible a.i (a.b + t)) x)) e

@@ -1,51 +1,79 @@
--- `lines::put_group` writes the lines of a group: turn i writes that of clause i, whose number counts the lines before it. Assumes nothing.
-use mathlib.Core.Path.{◌≡◌, refl, ap}
+-- `lines::put_group` writes the lines of a group: turn i writes that of clause i, if it opens one, and its number counts the lines before it.
+-- Assumes nothing.
+use mathlib.Core.Path.{◌≡◌, refl, sym, ap, ◌∙◌}
 use Prim.Native.Nat.{ℕ, ◌+◌}
 use native.Mathlib.Omega.{arith}
-use Rattle.indexing.specs.Columns.{line_at, group_lines}
+use mathlib.Core.Bool.{Bool, true}
+use Rattle.indexing.specs.Upto.{bit}
+use Rattle.indexing.specs.Columns.{opens_line, lines_to, line_at, group_lines}
 use Rattle.indexing_iter.specs.Groups.{group_number}
 use Rattle.index_writer.proofs.BucketLaws.{lines_start, lines_step, lines-le}
 use Rattle.index_writer.proofs.Gather.{gather-start, gather-room, gather-more, gather-end}
-use Rattle.index_writer.proofs.LineLaws.{line_in}
-use Rattle.index_writer.proofs.lines.put_group.Goals.{In-loop-i}
+use Rattle.index_writer.proofs.LineLaws.{line_in, line-yes, line-no}
+use Rattle.index_writer.proofs.Left.{puts_none}
+use Rattle.index_writer.specs.Written.{new_line_by}
+use Rattle.index_writer.proofs.lines.put_group.Goals.{After-opens_line, then-opens_line, else-opens_line}
 use Rattle.index_writer.proofs.lines.put_group.Goals as goal
 
--- what turn i writes
-line : (c : In-loop-i)
-    → let a = c.args in
-    line_at a.columns.now.clauses.leaders.now a.columns.now.heads.now a.columns.now.clauses.opens.now a.columns.now.clauses.offs.now a.columns.now.clauses.tags.now a.switched.settings a.switched.arg (group_number a.g) c.loop-i.number c.loop-i.i ≡ line_in a.columns.now.clauses.leaders.now a.columns.now.heads.now a.columns.now.clauses.opens.now a.columns.now.clauses.offs.now a.columns.now.clauses.tags.now a.switched.settings a.switched.arg (group_number a.g) a.first c.loop-i.i
-line c = let a = c.args in
-    ap (λ (x : ℕ). line_at a.columns.now.clauses.leaders.now a.columns.now.heads.now a.columns.now.clauses.opens.now a.columns.now.clauses.offs.now a.columns.now.clauses.tags.now a.switched.settings a.switched.arg (group_number a.g) x c.loop-i.i) c.loop-i.invariant.1
+-- whether clause i opens a line, by the settings
+opens : (c : After-opens_line)
+    → let l = c.args.lines.now in
+    c.opens_line.result ≡ opens_line l.rooms.buckets.heads.leaders.now l.rooms.buckets.heads.heads.now l.rooms.switched.settings.dynamic (group_number c.args.g) c.loop-i.i
+opens c = rw (c.args.lines.now.rooms.dynamic_is, c.from.ensures) at c.opens_line.ensures
+
+-- what turn i writes if it does
+line : (c : After-opens_line) → c.opens_line.result ≡ true
+    → let l = c.args.lines.now in
+    new_line_by l c.loop-i.number c.loop-i.i
+    ≡ line_in l.rooms.buckets.heads.leaders.now l.rooms.buckets.heads.heads.now l.rooms.opens.now l.offs.now l.tags.now l.rooms.switched.settings l.rooms.switched.arg (group_number c.args.g) c.args.first c.loop-i.i
+line c e = let l = c.args.lines.now in
+    sym (line-yes l.rooms.buckets.heads.leaders.now l.rooms.buckets.heads.heads.now l.rooms.opens.now l.offs.now l.tags.now l.rooms.switched.settings l.rooms.switched.arg (group_number c.args.g) c.loop-i.number c.loop-i.i (sym (opens c) ∙ e))
+    ∙ ap (λ (x : ℕ). line_at l.rooms.buckets.heads.leaders.now l.rooms.buckets.heads.heads.now l.rooms.opens.now l.offs.now l.tags.now l.rooms.switched.settings l.rooms.switched.arg (group_number c.args.g) x c.loop-i.i) c.loop-i.invariant.0
+
+-- the lines that the first i + 1 clauses open
+lines : (c : After-opens_line)
+    → let l = c.args.lines.now in
+    lines_to l.rooms.buckets.heads.leaders.now l.rooms.buckets.heads.heads.now l.rooms.switched.settings.dynamic (group_number c.args.g) (c.loop-i.i + 1)
+    ≡ lines_to l.rooms.buckets.heads.leaders.now l.rooms.buckets.heads.heads.now l.rooms.switched.settings.dynamic (group_number c.args.g) c.loop-i.i + bit c.opens_line.result
+lines c = let l = c.args.lines.now in
+    lines_step l.rooms.buckets.heads.leaders.now l.rooms.buckets.heads.heads.now l.rooms.switched.settings.dynamic (group_number c.args.g) c.loop-i.i
+    ∙ ap (λ (b : Bool). lines_to l.rooms.buckets.heads.leaders.now l.rooms.buckets.heads.heads.now l.rooms.switched.settings.dynamic (group_number c.args.g) c.loop-i.i + bit b) (sym (opens c))
 
 pub loop-i-init : goal.loop-i-init
 unfolding group_lines
 loop-i-init c =
     let a = c.args in (
-      refl,
-      lines_start a.columns.now.clauses.leaders.now a.columns.now.heads.now a.switched.settings.dynamic (group_number a.g) a.first,
-      lines-le a.columns.now.clauses.leaders.now a.columns.now.heads.now a.switched.settings.dynamic (group_number a.g) 0,
+      lines_start a.lines.now.rooms.buckets.heads.leaders.now a.lines.now.rooms.buckets.heads.heads.now a.lines.now.rooms.switched.settings.dynamic (group_number a.g) a.first,
+      lines-le a.lines.now.rooms.buckets.heads.leaders.now a.lines.now.rooms.buckets.heads.heads.now a.lines.now.rooms.switched.settings.dynamic (group_number a.g) 0,
       gather-start _ _ a.index.now a.p c.requires.first_in_bounds,
     )
 
-pub put_line_at-q-requires : goal.put_line_at-q-requires
-put_line_at-q-requires c =
-    let l = c.loop-i in
-    let t = c.loop-i-test.true in
-    record {
-      i_bound = t;
-      i_in_bounds = gather-room _ l.invariant.3 t (line (goal.at.put_line_at-q-requires c).In-loop-i);
-    }
+pub put_new_line-q-requires : goal.put_new_line-q-requires
+put_new_line-q-requires c =
+    gather-room _ c.loop-i.invariant.2 c.loop-i-test.true (line (goal.at.put_new_line-q-requires c).After-opens_line c.if-opens_line.true)
 
 pub loop-i-preserved : goal.loop-i-preserved
-loop-i-preserved c = let a = c.args in
-    let l = c.loop-i in
-    let w = c.put_line_at-q in (
-      refl,
-      omega (arith, c.line_step-number.ensures.0, lines_step a.columns.now.clauses.leaders.now a.columns.now.heads.now a.switched.settings.dynamic (group_number a.g) l.i),
-      lines-le a.columns.now.clauses.leaders.now a.columns.now.heads.now a.switched.settings.dynamic (group_number a.g) (l.i + 1),
-      gather-more w.new.index w.result _ l.invariant.3 c.loop-i-test.true (line (goal.at.loop-i-preserved c).In-loop-i) w.auto.index w.ensures,
-    )
+loop-i-preserved c =
+    let l = c.args.lines.now in
+    let s = (goal.at.loop-i-preserved c).After-opens_line in
+    let le = lines-le l.rooms.buckets.heads.leaders.now l.rooms.buckets.heads.heads.now l.rooms.switched.settings.dynamic (group_number c.args.g) (c.loop-i.i + 1) in
+    elim c.if-opens_line.branch [
+      | then-opens_line w ↦
+          let one : bit c.opens_line.result ≡ 1 = ap bit w.if-opens_line.true in
+          let p = w.put_new_line-q in (
+            omega (arith, w.number-is, lines s, one),
+            le,
+            rw (w.index-is, w.q-is) (gather-more p.new.index p.result _ c.loop-i.invariant.2 c.loop-i-test.true (line s w.if-opens_line.true) p.auto.index p.ensures),
+          )
+      | else-opens_line w ↦
+          let none : bit c.opens_line.result ≡ 0 = ap bit w.if-opens_line.false in
+          let e = line-no l.rooms.buckets.heads.leaders.now l.rooms.buckets.heads.heads.now l.rooms.opens.now l.offs.now l.tags.now l.rooms.switched.settings l.rooms.switched.arg (group_number c.args.g) _ c.loop-i.i (sym (opens s) ∙ w.if-opens_line.false) in (
+            omega (arith, w.number-is, lines s, none),
+            le,
+            rw (w.index-is, w.q-is) (gather-more c.loop-i.index c.loop-i.q _ c.loop-i.invariant.2 c.loop-i-test.true (sym e) refl (puts_none c.loop-i.index c.loop-i.q refl)),
+          )
+    ]
 
 pub returns : goal.returns
 unfolding group_lines
-returns c = gather-end c.loop-i.invariant.3 c.loop-i-test.false
+returns c = gather-end c.loop-i.invariant.2 c.loop-i-test.false

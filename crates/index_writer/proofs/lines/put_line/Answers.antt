@@ -13,19 +13,19 @@ use Rattle.index_writer.proofs.lines.put_line.Goals as goal
 pub put-requires : goal.put-requires
 put-requires c =
     let a = c.args in
-    let e = line-parts a.clauses.now.leaders.now a.clauses.now.opens.now a.clauses.now.offs.now a.clauses.now.tags.now a.switched.settings a.switched.arg a.i [] a.number in
+    let e = line-parts a.clauses.now.tables.opens.leaders.now a.clauses.now.tables.opens.opens.now a.clauses.now.tables.offs.now a.clauses.now.tags.now a.switched.settings a.switched.arg a.i [] a.number in
     omega (arith, ap length e, c)
 
 pub overflow_add-p : goal.overflow_add-p
 overflow_add-p c =
     let a = c.args in
-    let e = line-parts a.clauses.now.leaders.now a.clauses.now.opens.now a.clauses.now.offs.now a.clauses.now.tags.now a.switched.settings a.switched.arg a.i [] a.number in
+    let e = line-parts a.clauses.now.tables.opens.leaders.now a.clauses.now.tables.opens.opens.now a.clauses.now.tables.offs.now a.clauses.now.tags.now a.switched.settings a.switched.arg a.i [] a.number in
     omega (arith, ap length e, c, length-records_of a.index.now)
 
 pub put_rest-requires : goal.put_rest-requires
 put_rest-requires c =
     let a = c.args in
-    let e = line-parts a.clauses.now.leaders.now a.clauses.now.opens.now a.clauses.now.offs.now a.clauses.now.tags.now a.switched.settings a.switched.arg a.i [] a.number in
+    let e = line-parts a.clauses.now.tables.opens.leaders.now a.clauses.now.tables.opens.opens.now a.clauses.now.tables.offs.now a.clauses.now.tags.now a.switched.settings a.switched.arg a.i [] a.number in
     omega (arith, ap length e, c, c.put)
 
 pub returns : goal.returns
@@ -33,10 +33,10 @@ returns c =
     let a = c.args in
     let w = c.put in
     let v = c.put_rest in
-    let rest = rest_of a.clauses.now.leaders.now a.clauses.now.opens.now a.clauses.now.offs.now a.clauses.now.tags.now a.switched.settings a.switched.arg a.i in
-    let e = line-parts a.clauses.now.leaders.now a.clauses.now.opens.now a.clauses.now.offs.now a.clauses.now.tags.now a.switched.settings a.switched.arg a.i [] a.number in
-    let m = ap (λ (x : ℕ). ([] ++ (rec_of 1 x 0 a.number 0 ∷ [])) ++ rest) c.mode_of-sub.ensures ∙ e in
+    let rest = rest_of a.clauses.now.tables.opens.leaders.now a.clauses.now.tables.opens.opens.now a.clauses.now.tables.offs.now a.clauses.now.tags.now a.switched.settings a.switched.arg a.i in
+    let e = line-parts a.clauses.now.tables.opens.leaders.now a.clauses.now.tables.opens.opens.now a.clauses.now.tables.offs.now a.clauses.now.tags.now a.switched.settings a.switched.arg a.i [] a.number in
+    let m = ap (λ (x : ℕ). ([] ++ (rec_of 1 x 0 a.number 0 ∷ [])) ++ rest) c.mode_of-mode.ensures ∙ e in
     let g0 = grow-start a.index.now a.p (omega (arith, c)) in
-    let g1 = grow-one w.new.index (rec_of 1 c.mode_of-sub.result 0 a.number 0) g0 (omega (arith, c, ap length e)) w.auto.index w.ensures in
+    let g1 = grow-one w.new.index (rec_of 1 c.mode_of-mode.result 0 a.number 0) g0 (omega (arith, c, ap length e)) w.auto.index (rw c.line.ensures at w.ensures) in
     let g2 = grow-run v.new.index v.result rest g1 v.ensures.0 (omega (arith, c, ap length e, v.ensures.0)) v.auto.index v.ensures.1 in
     ((grow-as m g2).next, grow-end (grow-as m g2))

@@ -1,31 +1,31 @@
 -- `lines::put_list_line` writes the lines of the list group, or the line of no clause. Assumes nothing.
 use mathlib.Core.Path.{◌≡◌, sym, ◌∙◌}
-use mathlib.Core.List.{[]}
 use lib.ListN.{length}
-use Rattle.indexing.specs.Columns.{line_of, list_line, group_lines}
 use Rattle.index_writer.proofs.Left.{room_as, puts-as}
 use Rattle.index_writer.proofs.LineLaws.{list-none-line, list-lines}
+use Rattle.index_writer.specs.Written.{group_lines_by, list_line_by, new_line_by}
+use Rattle.indexing_iter.specs.declared.group.Group.TheVariants.{List as Lists}
 use Rattle.index_writer.proofs.lines.put_list_line.Goals.{Else-empty_list, Then-empty_list}
 use Rattle.index_writer.proofs.lines.put_list_line.Goals as goal
 
 -- no clause has a list: the line of none is to be written
-none : (t : Then-empty_list) → let a = t.args in list_line a.columns.now.clauses.leaders.now a.columns.now.heads.now a.columns.now.clauses.opens.now a.columns.now.clauses.offs.now a.columns.now.clauses.tags.now a.switched.settings a.switched.arg a.number ≡ line_of a.columns.now.clauses.leaders.now [] a.columns.now.clauses.opens.now a.columns.now.clauses.offs.now a.columns.now.clauses.tags.now a.switched.settings a.switched.arg a.number (length a.columns.now.clauses.leaders.now)
+none : (t : Then-empty_list) → let a = t.args in list_line_by a.lines.now a.number ≡ new_line_by a.lines.now a.number (length a.lines.now.rooms.buckets.heads.leaders.now)
 none t = let a = t.args in
-    list-none-line a.columns.now.clauses.leaders.now a.columns.now.heads.now a.columns.now.clauses.opens.now a.columns.now.clauses.offs.now a.columns.now.clauses.tags.now a.switched.settings a.switched.arg a.number (sym t.empty_list.ensures ∙ t.if-empty_list.true)
+    list-none-line a.lines.now.rooms.buckets.heads.leaders.now a.lines.now.rooms.buckets.heads.heads.now a.lines.now.rooms.opens.now a.lines.now.offs.now a.lines.now.tags.now a.lines.now.rooms.switched.settings a.lines.now.rooms.switched.arg a.number (sym (rw t.args.lines.now.rooms.dynamic_is at t.empty_list.ensures) ∙ t.if-empty_list.true)
 
 -- else they are those of the group
-some : (t : Else-empty_list) → let a = t.args in list_line a.columns.now.clauses.leaders.now a.columns.now.heads.now a.columns.now.clauses.opens.now a.columns.now.clauses.offs.now a.columns.now.clauses.tags.now a.switched.settings a.switched.arg a.number ≡ group_lines a.columns.now.clauses.leaders.now a.columns.now.heads.now a.columns.now.clauses.opens.now a.columns.now.clauses.offs.now a.columns.now.clauses.tags.now a.switched.settings a.switched.arg 2 a.number
+some : (t : Else-empty_list) → let a = t.args in list_line_by a.lines.now a.number ≡ group_lines_by a.lines.now Lists a.number
 some t = let a = t.args in
-    list-lines a.columns.now.clauses.leaders.now a.columns.now.heads.now a.columns.now.clauses.opens.now a.columns.now.clauses.offs.now a.columns.now.clauses.tags.now a.switched.settings a.switched.arg a.number (sym t.empty_list.ensures ∙ t.if-empty_list.false)
+    list-lines a.lines.now.rooms.buckets.heads.leaders.now a.lines.now.rooms.buckets.heads.heads.now a.lines.now.rooms.opens.now a.lines.now.offs.now a.lines.now.tags.now a.lines.now.rooms.switched.settings a.lines.now.rooms.switched.arg a.number (sym (rw t.args.lines.now.rooms.dynamic_is at t.empty_list.ensures) ∙ t.if-empty_list.false)
 
-pub put_line-requires : goal.put_line-requires
-put_line-requires c =
-    room_as c.args.p (none (goal.at.put_line-requires c).Then-empty_list) c.requires.number_in_bounds
+pub put_new_line-requires : goal.put_new_line-requires
+put_new_line-requires c =
+    room_as c.args.p (none (goal.at.put_new_line-requires c).Then-empty_list) c.requires.number_in_bounds
 
 pub returns-then-empty_list : goal.returns-then-empty_list
 returns-then-empty_list c =
     let a = c.args in
-    let w = c.put_line in
+    let w = c.put_new_line in
     puts-as a.index.now w.new.index a.p w.result (none (goal.at.returns-then-empty_list c).Then-empty_list) w.ensures
 
 pub put_group-requires : goal.put_group-requires

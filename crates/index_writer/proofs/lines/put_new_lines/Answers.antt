@@ -8,6 +8,8 @@ use Rattle.indexing_iter.specs.declared.Settings.{Settings}
 use Rattle.indexing.specs.Columns.{list_lines, lines_to, list_line, group_lines, new_lines_recs}
 use Rattle.index_writer.proofs.Left.{Left, left-start, left-room, left-run, left-all}
 use Rattle.index_writer.proofs.LineLaws.{new-parts, number-first, number-next, number-last}
+use Rattle.index_writer.specs.Written.{group_lines_by, new_lines_by}
+use Rattle.indexing_iter.specs.declared.group.Group.TheVariants.{Literals, Structures}
 use Rattle.index_writer.proofs.lines.put_new_lines.Goals.{After-put_group-q, After-put_list_line-q}
 use Rattle.index_writer.proofs.lines.put_new_lines.Goals as goal
 
@@ -27,12 +29,12 @@ after-lists : (c : After-put_list_line-q)
     → let a = c.args in
     let x = c.list_lines.result in
     let y = c.count_lines.result in
-    Left a.index.now a.p (new_lines_recs a.columns.now.clauses.leaders.now a.columns.now.heads.now a.columns.now.clauses.opens.now a.columns.now.clauses.offs.now a.columns.now.clauses.tags.now a.switched.settings a.switched.arg a.number) c.put_list_line-q.result
-    (group_lines a.columns.now.clauses.leaders.now a.columns.now.heads.now a.columns.now.clauses.opens.now a.columns.now.clauses.offs.now a.columns.now.clauses.tags.now a.switched.settings a.switched.arg 3 (a.number + x) ++ group_lines a.columns.now.clauses.leaders.now a.columns.now.heads.now a.columns.now.clauses.opens.now a.columns.now.clauses.offs.now a.columns.now.clauses.tags.now a.switched.settings a.switched.arg 1 (a.number + x + y)) c.put_list_line-q.new.index
+    Left a.index.now a.p (new_lines_by a.lines.now a.number) c.put_list_line-q.result
+    (group_lines_by a.lines.now Structures (a.number + x) ++ group_lines_by a.lines.now Literals (a.number + x + y)) c.put_list_line-q.new.index
 after-lists c =
     let w = c.put_list_line-q in
     left-run w.new.index w.result _ _
-    (begin _ _ _ _ _ _ _ _ c.args.index.now c.args.p c.list_lines.ensures.value c.count_lines.ensures.value c.requires.number_in_bounds)
+    (begin _ _ _ _ _ _ _ _ c.args.index.now c.args.p (rw c.args.lines.now.rooms.dynamic_is at c.list_lines.ensures.value) (rw (c.args.lines.now.rooms.dynamic_is, c.from.ensures) at c.count_lines.ensures.value) c.requires.number_in_bounds)
     w.ensures.0 w.auto.index w.ensures.1
 
 -- and those of the structures
@@ -40,10 +42,10 @@ after-structures : (c : After-put_group-q)
     → let a = c.args in
     let x = c.list_lines.result in
     let y = c.count_lines.result in
-    Left a.index.now a.p (new_lines_recs a.columns.now.clauses.leaders.now a.columns.now.heads.now a.columns.now.clauses.opens.now a.columns.now.clauses.offs.now a.columns.now.clauses.tags.now a.switched.settings a.switched.arg a.number) c.put_list_line-q.result
-    (group_lines a.columns.now.clauses.leaders.now a.columns.now.heads.now a.columns.now.clauses.opens.now a.columns.now.clauses.offs.now a.columns.now.clauses.tags.now a.switched.settings a.switched.arg 3 (a.number + x) ++ group_lines a.columns.now.clauses.leaders.now a.columns.now.heads.now a.columns.now.clauses.opens.now a.columns.now.clauses.offs.now a.columns.now.clauses.tags.now a.switched.settings a.switched.arg 1 (a.number + x + y)) c.put_list_line-q.new.index
-    → Left a.index.now a.p (new_lines_recs a.columns.now.clauses.leaders.now a.columns.now.heads.now a.columns.now.clauses.opens.now a.columns.now.clauses.offs.now a.columns.now.clauses.tags.now a.switched.settings a.switched.arg a.number) c.put_group-q.result
-    (group_lines a.columns.now.clauses.leaders.now a.columns.now.heads.now a.columns.now.clauses.opens.now a.columns.now.clauses.offs.now a.columns.now.clauses.tags.now a.switched.settings a.switched.arg 1 (a.number + x + y)) c.put_group-q.new.index
+    Left a.index.now a.p (new_lines_by a.lines.now a.number) c.put_list_line-q.result
+    (group_lines_by a.lines.now Structures (a.number + x) ++ group_lines_by a.lines.now Literals (a.number + x + y)) c.put_list_line-q.new.index
+    → Left a.index.now a.p (new_lines_by a.lines.now a.number) c.put_group-q.result
+    (group_lines_by a.lines.now Literals (a.number + x + y)) c.put_group-q.new.index
 after-structures c L = let w = c.put_group-q in left-run w.new.index w.result _ _ L w.ensures.0 w.auto.index w.ensures.1
 
 pub put_list_line-q-requires : goal.put_list_line-q-requires
@@ -51,12 +53,12 @@ put_list_line-q-requires c =
     record {
       number_bound = number-first c.requires.number_bound;
       number_in_bounds = left-room _ _
-          (begin _ _ _ _ _ _ _ _ c.args.index.now c.args.p c.list_lines.ensures.value c.count_lines.ensures.value c.requires.number_in_bounds);
+          (begin _ _ _ _ _ _ _ _ c.args.index.now c.args.p (rw c.args.lines.now.rooms.dynamic_is at c.list_lines.ensures.value) (rw (c.args.lines.now.rooms.dynamic_is, c.from.ensures) at c.count_lines.ensures.value) c.requires.number_in_bounds);
     }
 
 pub put_group-q-requires : goal.put_group-q-requires
 put_group-q-requires c =
-    let small = number-next c.args.columns.now.clauses.few c.requires.number_bound c.list_lines.ensures.upper_bound in
+    let small = number-next c.args.lines.now.rooms.few c.requires.number_bound c.list_lines.ensures.upper_bound in
     record {
       first_bound = small;
       first_in_bounds = left-room _ _ (after-lists (goal.at.put_group-q-requires c).After-put_list_line-q);
@@ -65,7 +67,7 @@ put_group-q-requires c =
 pub put_group-requires : goal.put_group-requires
 put_group-requires c =
     let g = goal.at.put_group-requires c in
-    let small = number-last c.args.columns.now.clauses.few c.requires.number_bound c.list_lines.ensures.upper_bound c.count_lines.ensures.upper_bound in
+    let small = number-last c.args.lines.now.rooms.few c.requires.number_bound c.list_lines.ensures.upper_bound c.count_lines.ensures.upper_bound in
     record {
       first_bound = small;
       first_in_bounds = (after-structures g.After-put_group-q (after-lists g.After-put_list_line-q)).room;

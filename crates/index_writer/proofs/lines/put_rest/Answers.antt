@@ -9,14 +9,14 @@ use Rattle.index_writer.proofs.lines.put_rest.Goals as goal
 -- all is left to write, and then the offsets
 begin : (s : Start)
     → let a = s.args in
-    let rest = rest_of a.clauses.now.leaders.now a.clauses.now.opens.now a.clauses.now.offs.now a.clauses.now.tags.now a.switched.settings a.switched.arg a.i in
+    let rest = rest_of a.clauses.now.tables.opens.leaders.now a.clauses.now.tables.opens.opens.now a.clauses.now.tables.offs.now a.clauses.now.tags.now a.switched.settings a.switched.arg a.i in
     Left a.index.now a.p rest a.p rest a.index.now
 begin s = left-start s.args.index.now s.args.p _ _ refl s.requires
 
 after-tables : (c : After-put_tables-q)
     → let a = c.args in
-    Left a.index.now a.p (rest_of a.clauses.now.leaders.now a.clauses.now.opens.now a.clauses.now.offs.now a.clauses.now.tags.now a.switched.settings a.switched.arg a.i) c.put_tables-q.result
-    (choices_of a.clauses.now.leaders.now a.clauses.now.opens.now a.clauses.now.offs.now a.clauses.now.tags.now a.switched.settings a.switched.arg a.i) c.put_tables-q.new.index
+    Left a.index.now a.p (rest_of a.clauses.now.tables.opens.leaders.now a.clauses.now.tables.opens.opens.now a.clauses.now.tables.offs.now a.clauses.now.tags.now a.switched.settings a.switched.arg a.i) c.put_tables-q.result
+    (choices_of a.clauses.now.tables.opens.leaders.now a.clauses.now.tables.opens.opens.now a.clauses.now.tables.offs.now a.clauses.now.tags.now a.switched.settings a.switched.arg a.i) c.put_tables-q.new.index
 after-tables c =
     let w = c.put_tables-q in
     left-run w.new.index w.result _ _ (left-start c.args.index.now c.args.p _ _ refl c.requires) w.ensures.0 w.auto.index w.ensures.1
@@ -24,8 +24,8 @@ after-tables c =
 pub put_tables-q-requires : goal.put_tables-q-requires
 put_tables-q-requires c =
     let a = c.args in
-    let tables = tables_of a.clauses.now.leaders.now a.clauses.now.opens.now a.clauses.now.offs.now a.clauses.now.tags.now a.switched.settings a.switched.arg a.i in
-    let choices = choices_of a.clauses.now.leaders.now a.clauses.now.opens.now a.clauses.now.offs.now a.clauses.now.tags.now a.switched.settings a.switched.arg a.i in
+    let tables = tables_of a.clauses.now.tables.opens.leaders.now a.clauses.now.tables.opens.opens.now a.clauses.now.tables.offs.now a.clauses.now.tags.now a.switched.settings a.switched.arg a.i in
+    let choices = choices_of a.clauses.now.tables.opens.leaders.now a.clauses.now.tables.opens.opens.now a.clauses.now.tables.offs.now a.clauses.now.tags.now a.switched.settings a.switched.arg a.i in
     record {
       le_b = omega (arith, a.switched.arg_bound, a.switched.arity_bound);
       k_in_bounds = left-room tables choices (begin (goal.at.put_tables-q-requires c).Start);
@@ -34,6 +34,7 @@ put_tables-q-requires c =
 pub put_choices-requires : goal.put_choices-requires
 put_choices-requires c =
     record {
+      few = c.args.clauses.now.tables.opens.few;
       n_value = c.count_members-n.ensures.value;
       i_in_bounds = (after-tables (goal.at.put_choices-requires c).After-put_tables-q).room;
     }

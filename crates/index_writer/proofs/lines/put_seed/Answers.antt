@@ -12,31 +12,31 @@ use Rattle.index_writer.proofs.lines.put_seed.Goals as goal
 pub put-requires : goal.put-requires
 put-requires c =
     let a = c.args in
-    omega (arith, ap length (seed-parts a.clauses.now.leaders.now a.clauses.now.opens.now a.clauses.now.offs.now a.clauses.now.tags.now a.switched.settings a.switched.arg), c)
+    omega (arith, ap length (seed-parts a.clauses.now.tables.opens.leaders.now a.clauses.now.tables.opens.opens.now a.clauses.now.tables.offs.now a.clauses.now.tags.now a.switched.settings a.switched.arg), c)
 
 pub put-requires-2 : goal.put-requires-2
 put-requires-2 c =
     let a = c.args in
-    omega (arith, ap length (seed-parts a.clauses.now.leaders.now a.clauses.now.opens.now a.clauses.now.offs.now a.clauses.now.tags.now a.switched.settings a.switched.arg), c, c.put)
+    omega (arith, ap length (seed-parts a.clauses.now.tables.opens.leaders.now a.clauses.now.tables.opens.opens.now a.clauses.now.tables.offs.now a.clauses.now.tags.now a.switched.settings a.switched.arg), c, c.put)
 
 pub put_rest-requires : goal.put_rest-requires
 put_rest-requires c =
     let a = c.args in
-    omega (arith, ap length (seed-parts a.clauses.now.leaders.now a.clauses.now.opens.now a.clauses.now.offs.now a.clauses.now.tags.now a.switched.settings a.switched.arg), c, c.put-2, c.put)
+    omega (arith, ap length (seed-parts a.clauses.now.tables.opens.leaders.now a.clauses.now.tables.opens.opens.now a.clauses.now.tables.offs.now a.clauses.now.tags.now a.switched.settings a.switched.arg), c, c.put-2, c.put)
 
 pub returns : goal.returns
 returns c =
     let a = c.args in
-    let mode = c.mode_of-sub in
+    let mode = c.mode_of-mode in
     let w = c.put in
     let u = c.put-2 in
     let v = c.put_rest in
-    let rest = rest_of a.clauses.now.leaders.now a.clauses.now.opens.now a.clauses.now.offs.now a.clauses.now.tags.now a.switched.settings a.switched.arg 0 in
-    let e = seed-parts a.clauses.now.leaders.now a.clauses.now.opens.now a.clauses.now.offs.now a.clauses.now.tags.now a.switched.settings a.switched.arg in
+    let rest = rest_of a.clauses.now.tables.opens.leaders.now a.clauses.now.tables.opens.opens.now a.clauses.now.tables.offs.now a.clauses.now.tags.now a.switched.settings a.switched.arg 0 in
+    let e = seed-parts a.clauses.now.tables.opens.leaders.now a.clauses.now.tables.opens.opens.now a.clauses.now.tables.offs.now a.clauses.now.tags.now a.switched.settings a.switched.arg in
     let m = ap (λ (x : ℕ). (([] ++ (rec_of 1 x 0 0 0 ∷ [])) ++ (rec_of 3 0 a.switched.arg 0 0 ∷ [])) ++ rest) mode.ensures ∙ e in
     let g0 = grow-start a.index.now 0 (omega (arith, c)) in
-    let g1 = grow-one w.new.index (rec_of 1 mode.result 0 0 0) g0 (omega (arith, c, ap length e)) w.auto.index w.ensures in
-    let g2 = grow-one u.new.index (rec_of 3 0 a.switched.arg 0 0) g1 (omega (arith, c, ap length e)) u.auto.index u.ensures in
+    let g1 = grow-one w.new.index (rec_of 1 mode.result 0 0 0) g0 (omega (arith, c, ap length e)) w.auto.index (rw c.line.ensures at w.ensures) in
+    let g2 = grow-one u.new.index (rec_of 3 0 a.switched.arg 0 0) g1 (omega (arith, c, ap length e)) u.auto.index (rw c.table-on_demand.ensures at u.ensures) in
     let g3 = grow-run v.new.index v.result rest g2 v.ensures.0 (omega (arith, c, ap length e, v.ensures.0)) v.auto.index v.ensures.1 in
     record {
       value = omega (arith, (grow-as m g3).next);

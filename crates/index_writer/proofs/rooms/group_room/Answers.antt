@@ -1,5 +1,5 @@
 -- `rooms::group_room` counts the records of a group's lines: after i turns those of the lines that the first i clauses open. Assumes nothing.
-use mathlib.Core.Path.{◌≡◌, refl, sym, ap, ◌∙◌}
+use mathlib.Core.Path.{◌≡◌, sym, ap, ◌∙◌}
 use Prim.Native.Nat.{ℕ, ◌+◌}
 use native.Mathlib.Omega.{arith}
 use lib.ListN.{length}
@@ -11,20 +11,19 @@ use Rattle.index_writer.proofs.LineLaws.{line_in, length_more}
 use Rattle.index_writer.proofs.rooms.group_room.Goals as goal
 
 pub loop-i-init : goal.loop-i-init
-loop-i-init c = (refl, omega arith, omega arith, λ offs tags number. sym (ap length (list-none _)))
+loop-i-init c = (omega arith, omega arith, λ offs tags number. sym (ap length (list-none _)))
 
 pub loop-i-preserved : goal.loop-i-preserved
 loop-i-preserved c =
     let a = c.args in
     let i = c.loop-i.i in (
-      refl,
       omega arith,
       omega (arith, c.line_room_at-room, c.loop-i),
       λ offs tags number. omega (
         arith,
-        c.loop-i.invariant.3 offs tags number,
-        c.line_room_at-room.ensures.by_index offs tags (number + lines_to a.columns.now.clauses.leaders.now a.columns.now.heads.now a.switched.settings.dynamic (group_number a.g) i),
-        length_more (line_in a.columns.now.clauses.leaders.now a.columns.now.heads.now a.columns.now.clauses.opens.now offs tags a.switched.settings a.switched.arg (group_number a.g) number) i,
+        c.loop-i.invariant.2 offs tags number,
+        c.line_room_at-room.ensures.by_index offs tags (number + lines_to a.rooms.now.buckets.heads.leaders.now a.rooms.now.buckets.heads.heads.now a.rooms.now.switched.settings.dynamic (group_number a.g) i),
+        length_more (line_in a.rooms.now.buckets.heads.leaders.now a.rooms.now.buckets.heads.heads.now a.rooms.now.opens.now offs tags a.rooms.now.switched.settings a.rooms.now.switched.arg (group_number a.g) number) i,
       ),
     )
 
@@ -32,8 +31,8 @@ pub returns : goal.returns
 unfolding group_lines
 returns c =
     let a = c.args in
-    let e : c.loop-i.i ≡ length a.columns.now.clauses.leaders.now = omega arith in
+    let e : c.loop-i.i ≡ length a.rooms.now.buckets.heads.leaders.now = omega arith in
     record {
-      by_index = λ offs tags number. c.loop-i.invariant.3 offs tags number ∙ ap (λ (x : ℕ). length (list_to (line_in a.columns.now.clauses.leaders.now a.columns.now.heads.now a.columns.now.clauses.opens.now offs tags a.switched.settings a.switched.arg (group_number a.g) number) x)) e;
+      by_index = λ offs tags number. c.loop-i.invariant.2 offs tags number ∙ ap (λ (x : ℕ). length (list_to (line_in a.rooms.now.buckets.heads.leaders.now a.rooms.now.buckets.heads.heads.now a.rooms.now.opens.now offs tags a.rooms.now.switched.settings a.rooms.now.switched.arg (group_number a.g) number) x)) e;
       upper_bound = omega (arith, c, c.loop-i);
     }

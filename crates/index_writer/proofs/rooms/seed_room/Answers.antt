@@ -6,4 +6,4 @@ use Rattle.index_writer.proofs.LineLaws.{seed-parts}
 use Rattle.index_writer.proofs.rooms.seed_room.Goals as goal
 
 pub returns-clause-by_index : goal.returns-clause-by_index
-returns-clause-by_index c = let a = c.args in λ offs tags. omega (arith, ap length (seed-parts a.clauses.now.leaders.now a.clauses.now.opens.now offs tags a.switched.settings a.switched.arg), c.rest_room.ensures.by_index offs tags)
+returns-clause-by_index c = let a = c.args in λ offs tags. omega (arith, ap length (seed-parts a.opens.now.leaders.now a.opens.now.opens.now offs tags a.switched.settings a.switched.arg), c.rest_room.ensures.by_index offs tags)

@@ -6,4 +6,4 @@ use Rattle.indexing.proofs.key_buckets.bucket_of.Goals as goal
 
 pub returns : goal.returns
 unfolding bucket_by
-returns c = (refl, mod-lt _ c.requires)
+returns c = (rw c.from.ensures refl, mod-lt _ c.requires)

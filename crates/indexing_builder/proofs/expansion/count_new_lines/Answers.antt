@@ -6,6 +6,6 @@ use Rattle.indexing_builder.proofs.expansion.count_new_lines.Goals as goal
 pub returns : goal.returns
 unfolding lines_made
 returns c = record {
-  value = omega arith;
+  value = omega (arith, rw c.from.ensures at c.count_lines-structures.ensures.value, rw c.from-2.ensures at c.count_lines-literals.ensures.value);
   upper_bound = omega arith;
 }

@@ -8,7 +8,7 @@ use Rattle.records.specs.declared.Rec.{Rec}
 use Rattle.records.proofs.MoveLaws.{splice-steps}
 use Rattle.records.proofs.Grown.{wrote_none}
 use Rattle.index_writer.specs.Written.{dead_by}
-use Rattle.indexing_builder.proofs.ExpansionLaws.{answer-none, answer-stored, dead-some}
+use Rattle.indexing_builder.proofs.ExpansionLaws.{answer-stored, dead-some}
 use Rattle.indexing_builder.proofs.expansion.expand_dead.Goals.{After-dead_room-more}
 use Rattle.indexing_builder.proofs.expansion.expand_dead.Goals as goal
 
@@ -17,20 +17,10 @@ room : (c : After-dead_room-more) → let a = c.args in let dead : List Rec = de
     (c.dead_room-more.result ≡ length dead) × (1 ≤ length dead)
 room c =
     let a = c.args in
-    (c.dead_room-more.ensures.by_index a.whole.now.offs.now, dead-some a.whole.now.leaders.now a.whole.now.opens.now a.whole.now.offs.now a.t.arg)
+    (c.dead_room-more.ensures.by_index a.whole.now.offs.now, dead-some a.whole.now.opens.leaders.now a.whole.now.opens.opens.now a.whole.now.offs.now a.t.arg)
 
 pub overflow_sub-more : goal.overflow_sub-more
 overflow_sub-more c = omega (arith, room (goal.at.overflow_sub-more c).After-dead_room-more)
-
-pub returns-then-t-total : goal.returns-then-t-total
-returns-then-t-total c = record { answer = answer-none c.args.t.capacity _ _ (omega (arith, room (goal.at.returns-then-t-total c).After-dead_room-more, c.if-t-total)); leaves = refl }
-
-pub put_dead-requires : goal.put_dead-requires
-put_dead-requires c =
-    record {
-      le_arg = omega (arith, c);
-      arg_in_bounds = omega (arith, c, room (goal.at.put_dead-requires c).After-dead_room-more, c.if-t-total, c.open_gap.ensures.count);
-    }
 
 pub returns : goal.returns
 returns c =

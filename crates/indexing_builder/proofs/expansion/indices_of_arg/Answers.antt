@@ -17,15 +17,18 @@ due s = expandable s.requires s.args.program.now.checked
 arity-32 : (s : Start) → s.args.program.now.settings.arity ≤ 32
 arity-32 s = let p = s.args.program.now in (code_ok class_of p.settings.arity p.code.now p.starts.now p.checked).arity-to
 
-pub fill-requires : goal.fill-requires
-fill-requires c =
-    let d = due (goal.at.fill-requires c).Start in
-    record { all_known = d.known; le_a = (d.placed.first, d.placed.last); few = (d.few, d.tagged) }
+pub invariant_of-line : goal.invariant_of-line
+invariant_of-line c =
+    let d = due (goal.at.invariant_of-line c).Start in
+    record { all_known = d.known; arg_bound = (d.placed.first, d.placed.last); few = d.few }
 
-pub any_open-requires : goal.any_open-requires
-any_open-requires c =
-    let s = (goal.at.any_open-requires c).Start in
-    record { le_b = omega (arith, (due s).placed, arity-32 s) }
+pub fill-requires : goal.fill-requires
+fill-requires c = (due (goal.at.fill-requires c).Start).tagged
+
+pub invariant_of-arg : goal.invariant_of-arg
+invariant_of-arg c =
+    let s = (goal.at.invariant_of-arg c).Start in
+    record { bound = omega (arith, (due s).placed, arity-32 s) }
 
 pub expand_dead-requires : goal.expand_dead-requires
 expand_dead-requires c =
@@ -39,12 +42,11 @@ returns-then-any_open c =
     let f = c.fill.ensures in
     let d = c.expand_dead in
     expansion-is c.requires p.checked d.new.index d.result (λ i. search rules) (λ i. search rules)
-    (dead-expanded p.settings f.filled f.of_whole.0 f.of_whole.1 a.tags.now a.t a.index.now d.new.index d.result (sym c.any_open.ensures ∙ c.if-any_open.true) d.ensures)
+    (dead-expanded p.settings f.keyed f.whole-opens f.whole-offs a.tags.now a.t a.index.now d.new.index d.result (sym c.any_open.ensures ∙ c.if-any_open.true) d.ensures)
 
 pub expand_switch-requires : goal.expand_switch-requires
 expand_switch-requires c =
-    let s = (goal.at.expand_switch-requires c).Start in
-    record { placed = (due s).placed; arity_bound = arity-32 s }
+    record { placed = rw c.fill.ensures.settings ((due (goal.at.expand_switch-requires c).Start).placed) }
 
 pub returns : goal.returns
 returns c =
@@ -53,5 +55,5 @@ returns c =
     let f = c.fill.ensures in
     let d = c.expand_switch in
     expansion-is c.requires p.checked d.new.index d.result (λ i. search rules) (λ i. search rules)
-    (switch-expanded p.settings f.filled f.of_whole.0 f.of_columns.0 a.tags.now a.t a.index.now d.new.index d.result f.of_columns.1
-    (sym c.any_open.ensures ∙ c.if-any_open.false) d.ensures)
+    (switch-expanded p.settings f.keyed f.whole-opens f.own-offs a.tags.now a.t a.index.now d.new.index d.result f.own-tags
+    (sym c.any_open.ensures ∙ c.if-any_open.false) (rw (c.fill.result.1.lines.rooms.dynamic_is, f.settings, f.arg) at d.ensures))

@@ -6,36 +6,17 @@ use native.Mathlib.Omega.{arith}
 use lib.ListN.{length}
 use Rattle.records.specs.declared.Rec.{Rec}
 use Rattle.records.proofs.MoveLaws.{splice-steps}
-use Rattle.index_writer.specs.Written.{switch_by, new_lines_by}
+use Rattle.index_writer.specs.Written.{switch_in, new_lines_by}
 use Rattle.indexing_builder.proofs.expansion.write_switch.Goals.{Start}
 use Rattle.indexing_builder.proofs.expansion.write_switch.Goals as goal
 
 -- the switch, d the distance of its first line: 1 for a fresh one, and grown it is the lines before less the own line
 module _ (s : Start) where
   abbrev switch : ℕ → List Rec
-  switch d = switch_by s.args.columns.now s.args.settings.dynamic s.args.t.arg d
+  switch d = switch_in s.args.columns.now d
 
   grown-first : 1 + (s.args.t.lines - s.args.t.line - 1) ≡ s.args.t.lines - s.args.t.line
   grown-first = omega (arith, s.requires.placed.own)
-
-pub put_switch-requires : goal.put_switch-requires
-put_switch-requires c =
-    let s = (goal.at.put_switch-requires c).Start in
-    record {
-      by_bound = omega (arith, c);
-      by_in_bounds = omega (arith, c, ap (λ (d : ℕ). length (switch s d)) (grown-first s), c.open_gap.ensures.count);
-    }
-
-pub overflow_add-t : goal.overflow_add-t
-overflow_add-t c = omega (arith, c)
-
-pub put_new_lines-requires : goal.put_new_lines-requires
-put_new_lines-requires c =
-    let s = (goal.at.put_new_lines-requires c).Start in
-    record {
-      number_bound = omega (arith, c);
-      number_in_bounds = omega (arith, c, ap (λ (d : ℕ). length (switch s d)) (grown-first s), c.open_gap.ensures.count, c.put_switch.ensures.1.count);
-    }
 
 pub returns : goal.returns
 returns c =
@@ -47,5 +28,5 @@ returns c =
     rw (← grown-first s)
     (splice-steps a.index.now o.new.index w.new.index v.new.index a.t.at a.t.count a.k
     (switch s (1 + (a.t.lines - a.t.line - 1)))
-    (new_lines_by a.columns.now a.settings a.t.arg a.t.lines)
+    (new_lines_by a.columns.now.lines a.t.lines)
     (omega (arith, c)) (omega (arith, c)) (omega (arith, c, ap (λ (d : ℕ). length (switch s d)) (grown-first s))) o.ensures w.ensures.1 v.ensures.1)

@@ -1,11 +1,10 @@
 -- 1 to 8: the first refusal is handed on; where 1 and 2 passed, c is at most 32. Assumes nothing.
 use mathlib.Core.Path.{◌≡◌, refl, sym, ◌∙◌}
-use native.Mathlib.Omega.{arith}
 use Rattle.std.proofs.lemmas.Result.{err_from_is_err_and}
 use Rattle.indexing_iter.specs.declared.refusal.Refusal.TheVariants.{OpenClause}
 use Rattle.indexing_iter.specs.Classes.{class_of}
 use Rattle.indexing_iter.specs.Checks.{refuse, check_build}
-use Rattle.indexing_iter.proofs.CheckLaws.{arity-passed, chosen-passed, clauses-of-rising}
+use Rattle.indexing_iter.proofs.CheckLaws.{clauses-of-rising}
 use Rattle.indexing_iter.proofs.checks.check_build.Goals.{After-open_somewhere}
 use Rattle.indexing_iter.proofs.checks.check_build.Goals as goal
 
@@ -38,13 +37,6 @@ returns-in_err-check_clauses_of c =
       ← c.check_clauses_of.ensures,
       c.in_err-check_clauses_of.was,
     ) refl
-
-pub overflow_cast-c : goal.overflow_cast-c
-overflow_cast-c c =
-    let a = c.args in
-    let top = arity-passed a.arity (sym c.check_arity.ensures ∙ c.in_ok-check_arity.was) in
-    let low = chosen-passed a.arity a.c (sym c.check_chosen.ensures ∙ c.in_ok-check_chosen.was) in
-    omega (arith, top.1, low.1)
 
 pub invariant_of-clauses : goal.invariant_of-clauses
 invariant_of-clauses c = record { rising = clauses-of-rising _ _ _ _ (sym c.check_clauses_of.ensures ∙ c.in_ok-check_clauses_of.was) }

@@ -6,4 +6,4 @@ use Rattle.indexing_scan.proofs.Turns.{Seeks}
 use Rattle.indexing_scan.proofs.stored.find_record.Given as goal
 
 abbrev pub invariant-loop-i : goal.invariant-loop-i
-invariant-loop-i g l = (t : Rec → Bool) → Computes (goal.F-post g l.test) t → Seeks t (records_of l.index) l.from l.to l.i
+invariant-loop-i g l = (t : Rec → Bool) → Computes (goal.F-post g l.test) t → Seeks t (records_of l.run) l.i

@@ -5,10 +5,9 @@ use Rattle.std.proofs.Common.{tests}
 use Rattle.std.proofs.lemmas.Iterator.{YieldsList-from_slice}
 use Rattle.std.proofs.lemmas.Iterator.Adapters.{serves_from_places}
 use Rattle.std.proofs.lemmas.Iterator.Search.{all_from_yields_List}
-use Rattle.records.specs.Records.{records_of}
-use Rattle.indexing_iter.specs.Classes.{class_of}
-use Rattle.indexing_iter.specs.Clauses.{key_of, known}
+use Rattle.indexing_iter.specs.Clauses.{known}
 use Rattle.indexing_iter.specs.Keys.{same}
+use Rattle.indexing_iter.specs.Readings.{keys_by}
 use Rattle.indexing_scan.proofs.HeldLaws.{known_in, same-all}
 use Rattle.indexing_scan.proofs.unstored.all_same.Goals as goal
 
@@ -20,7 +19,7 @@ all-requires-clause-callable c = let l = c.args.clauses.now in
 pub returns : goal.returns
 returns c =
     let a = c.args in
-    let K = key_of class_of (records_of a.program.now.code.now) a.program.now.starts.now in
+    let K = keys_by a.program.now in
     all_from_yields_List (λ (o : ℕ). same (K o a.a) a.k) _ _ c.all.result c.all.ensures.ran (YieldsList-from_slice a.clauses.now c.iter.ensures.rest)
     (λ x b q k. search (rules, tests))
     ∙ same-all K a.a a.k a.clauses.now

@@ -5,10 +5,9 @@ use Rattle.std.proofs.Common.{tests}
 use Rattle.std.proofs.lemmas.Iterator.{YieldsList-from_slice}
 use Rattle.std.proofs.lemmas.Iterator.Adapters.{serves_from_places}
 use Rattle.std.proofs.lemmas.Iterator.Search.{any_from_yields_List}
-use Rattle.records.specs.Records.{records_of}
-use Rattle.indexing_iter.specs.Classes.{class_of}
-use Rattle.indexing_iter.specs.Clauses.{key_of, known}
+use Rattle.indexing_iter.specs.Clauses.{known}
 use Rattle.indexing_iter.specs.Keys.{is_open}
+use Rattle.indexing_iter.specs.Readings.{keys_by}
 use Rattle.indexing_scan.proofs.HeldLaws.{known_in, open-any}
 use Rattle.indexing_scan.proofs.unstored.any_open.Goals as goal
 
@@ -20,7 +19,7 @@ any-requires-clause-callable c = let l = c.args.clauses.now in
 pub returns : goal.returns
 returns c =
     let a = c.args in
-    let K = key_of class_of (records_of a.program.now.code.now) a.program.now.starts.now in
+    let K = keys_by a.program.now in
     any_from_yields_List (λ (o : ℕ). is_open (K o a.a)) _ _ c.any.result c.any.ensures.ran (YieldsList-from_slice a.clauses.now c.iter.ensures.rest)
     (λ x b q k. search (rules, tests))
     ∙ open-any K a.a a.clauses.now

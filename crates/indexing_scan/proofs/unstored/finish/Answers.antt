@@ -6,12 +6,11 @@ use lib.ListN.{length, drop}
 use lib.Seq.{take-length, length-take-le}
 use native.Mathlib.Omega.{arith}
 use Rattle.std.proofs.lemmas.List.{take-append-le}
-use Rattle.records.specs.Records.{records_of}
 use Rattle.indexing_iter.specs.Classes.{class_of}
-use Rattle.indexing.specs.Build.{program_of}
 use Rattle.indexing_scan.specs.Calls.{call_of}
 use Rattle.indexing_scan.specs.ByArgument.{answer_from}
 use Rattle.indexing_scan.specs.Walk.{unstored}
+use Rattle.indexing_scan.specs.Readings.{predicate_of}
 use Rattle.indexing_scan.proofs.CallLaws.{call-records}
 use Rattle.indexing_scan.proofs.UnstoredLaws.{Stepped, Finishing, goes_first, goes_step, goes_end, held-front, finishing-next}
 use borrow.Author.Rules.{rules}
@@ -23,14 +22,14 @@ turn : (c : After-narrow)
     → let l = c.loop-b in
     let a = c.args in
     let p = a.query.now.program in
-    let P = program_of class_of p.settings (records_of p.code.now) p.starts.now in
+    let P = predicate_of p in
     let Q = call_of a.query.now.call.now in
     Stepped P Q (answer_from P Q (p.settings.arity + 1 - a.a) a.a [] (unstored a.clauses.now))
     l.tables l.b l.count c.narrow.new.clauses c.narrow.result
 turn c = let l = c.loop-b in
     let a = c.args in
     let p = a.query.now.program in
-    let P = program_of class_of p.settings (records_of p.code.now) p.starts.now in
+    let P = predicate_of p in
     let Q = call_of a.query.now.call.now in
     goes_step P Q p.starts.now (answer_from P Q (p.settings.arity + 1 - a.a) a.a [] (unstored a.clauses.now))
     l.tables l.b l.count l.clauses c.narrow.new.clauses c.call_key-q.result c.narrow.result l.invariant.fits
@@ -46,7 +45,7 @@ stepped : (c : Joined-narrow)
     → let l = c.loop-b in
     let a = c.args in
     let p = a.query.now.program in
-    let P = program_of class_of p.settings (records_of p.code.now) p.starts.now in
+    let P = predicate_of p in
     let Q = call_of a.query.now.call.now in
     Finishing P Q p.starts.now (answer_from P Q (p.settings.arity + 1 - a.a) a.a [] (unstored a.clauses.now)) a.a (length a.clauses.now)
     (c.narrow.new.clauses ++ drop l.count l.clauses) c.match-narrow.count c.match-narrow.tables (l.b + 1)
@@ -70,7 +69,7 @@ pub loop-b-init : goal.loop-b-init
 loop-b-init c =
     let a = c.args in
     let p = a.query.now.program in
-    let P = program_of class_of p.settings (records_of p.code.now) p.starts.now in
+    let P = predicate_of p in
     record {
       goes = rw (take-length a.clauses.now) (goes_first P (call_of a.query.now.call.now) a.a a.clauses.now);
       first = search rules;
@@ -90,9 +89,9 @@ call_key-q-requires c =
 pub returns-in-Failed : goal.returns-in-Failed
 returns-in-Failed c = let s = rw c.in-Failed.is at (turn (goal.at.returns-in-Failed c).After-narrow) in
     record {
-      result_value = s.0;
-      clauses_after = s.1;
-      count_le_len = omega arith;
+      result_value = c.answered.ensures ∙ s.0;
+      clauses_after = rw c.answered.ensures s.1;
+      count_le_len = rw c.answered.ensures (omega arith);
     }
 
 pub returns-in-Single : goal.returns-in-Single
@@ -104,9 +103,9 @@ returns-in-Single c =
     let v = (rw c.in-Single.is at h).0 in
     let n = length-take-le l.count l.clauses l.invariant.fits in
     record {
-      result_value = s.0;
-      clauses_after = take-append-le 1 new (drop l.count l.clauses) (omega arith) ∙ s.1;
-      count_le_len = omega (arith, v, l.invariant.fits, l.invariant.same);
+      result_value = c.answered-in-Single.ensures ∙ s.0;
+      clauses_after = rw c.answered-in-Single.ensures (take-append-le 1 new (drop l.count l.clauses) (omega arith) ∙ s.1);
+      count_le_len = rw c.answered-in-Single.ensures (omega (arith, v, l.invariant.fits, l.invariant.same));
     }
 
 pub loop-b-preserved : goal.loop-b-preserved
@@ -116,7 +115,7 @@ pub returns : goal.returns
 returns c = let l = c.loop-b in
     let a = c.args in
     let p = a.query.now.program in
-    let P = program_of class_of p.settings (records_of p.code.now) p.starts.now in
+    let P = predicate_of p in
     let Q = call_of a.query.now.call.now in
     let e = goes_end P Q (answer_from P Q (p.settings.arity + 1 - a.a) a.a [] (unstored a.clauses.now))
     l.tables l.b l.count l.clauses l.invariant.goes (search rules) l.invariant.fits in
@@ -130,7 +129,7 @@ pub returns-after-narrow : goal.returns-after-narrow
 returns-after-narrow c = let l = c.loop-b in
     let a = c.args in
     let p = a.query.now.program in
-    let P = program_of class_of p.settings (records_of p.code.now) p.starts.now in
+    let P = predicate_of p in
     let Q = call_of a.query.now.call.now in
     let s = stepped (goal.at.returns-after-narrow c).Joined-narrow in
     let e = goes_end P Q (answer_from P Q (p.settings.arity + 1 - a.a) a.a [] (unstored a.clauses.now))

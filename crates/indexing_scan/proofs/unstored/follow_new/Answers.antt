@@ -7,12 +7,11 @@ use lib.Seq.{length-take-le}
 use Rattle.std.proofs.Common.{append_assoc, tests}
 use Rattle.indexing_scan.specs.declared.unstored.Step.TheVariants.{Only, Equal}
 use native.Mathlib.Omega.{arith}
-use Rattle.records.specs.Records.{records_of}
-use Rattle.indexing_iter.specs.Classes.{class_of}
-use Rattle.indexing_iter.specs.Clauses.{key_of, known}
+use Rattle.indexing_iter.specs.Clauses.{known}
 use Rattle.indexing.specs.Lists.{every}
-use Rattle.indexing.specs.Build.{program_of}
 use Rattle.indexing_scan.specs.Unstored.{alike, like_to, all_same}
+use Rattle.indexing_scan.specs.Readings.{predicate_of}
+use Rattle.indexing_iter.specs.Readings.{keys_by}
 use Rattle.indexing_scan.proofs.HeldLaws.{Front, front_kept, length-like, known-like, held-empty, held_none, held-entered}
 use Rattle.indexing_scan.proofs.UnstoredLaws.{known-first, follow-empty, follow_one, follow-equal, follow-none}
 use borrow.Author.Rules.{rules}
@@ -23,7 +22,7 @@ use Rattle.indexing_scan.proofs.unstored.follow_new.Goals as goal
 kept-n : (c : After-keep_if-n)
     → let a = c.args in
     let p = a.program.now in
-    let G = like_to (key_of class_of (records_of p.code.now) p.starts.now) true a.a a.q a.clauses.now in
+    let G = like_to (keys_by p) true a.a a.q a.clauses.now in
     (c.keep_if-n.result ≡ length G) × (c.keep_if-n.new.clauses ≡ G ++ drop c.keep_if-n.result a.clauses.now)
 unfolding like_to
 kept-n c = c.keep_if-n.ensures.kept (alike true c.args.q) (λ k b e. search (rules, tests))
@@ -32,7 +31,7 @@ kept-k : (c : After-keep_if-k)
     → let a = c.args in
     let p = a.program.now in
     let G = take c.keep_if-n.result c.keep_if-n.new.clauses in
-    let B = like_to (key_of class_of (records_of p.code.now) p.starts.now) false a.a a.q G in
+    let B = like_to (keys_by p) false a.a a.q G in
     (c.keep_if-k.result ≡ length B) × (c.keep_if-k.new.clauses ≡ B ++ drop c.keep_if-k.result G)
 unfolding like_to
 kept-k c = c.keep_if-k.ensures.kept (alike false c.args.q) (λ k b e. search (rules, tests))
@@ -41,11 +40,11 @@ kept-k c = c.keep_if-k.ensures.kept (alike false c.args.q) (λ k b e. search (ru
 grouped : (c : After-keep_if-n)
     → let a = c.args in
     let p = a.program.now in
-    Front (like_to (key_of class_of (records_of p.code.now) p.starts.now) true a.a a.q a.clauses.now)
+    Front (like_to (keys_by p) true a.a a.q a.clauses.now)
     c.keep_if-n.result c.keep_if-n.new.clauses
 grouped c = let a = c.args in
     let p = a.program.now in
-    let G = like_to (key_of class_of (records_of p.code.now) p.starts.now) true a.a a.q a.clauses.now in
+    let G = like_to (keys_by p) true a.a a.q a.clauses.now in
     front_kept G (drop c.keep_if-n.result a.clauses.now) c.keep_if-n.new.clauses c.keep_if-n.result (kept-n c).0 (kept-n c).1
 
 grouped-known : (c : After-keep_if-n)
@@ -54,13 +53,13 @@ grouped-known : (c : After-keep_if-n)
     every (known p.starts.now) (take c.keep_if-n.result c.keep_if-n.new.clauses) ≡ true
 grouped-known c = let a = c.args in
     let p = a.program.now in
-    let K = key_of class_of (records_of p.code.now) p.starts.now in
+    let K = keys_by p in
     ap (every (known p.starts.now)) (grouped c).front ∙ known-like (known p.starts.now) K true a.a a.q a.clauses.now (search rules)
 
 grouped-few : (c : After-keep_if-n) → c.keep_if-n.result ≤ length c.args.clauses.now
 grouped-few c = let a = c.args in
     let p = a.program.now in
-    let K = key_of class_of (records_of p.code.now) p.starts.now in
+    let K = keys_by p in
     omega (arith, (grouped c).count, length-like K true a.a a.q a.clauses.now)
 
 -- whether the group has one key
@@ -68,13 +67,13 @@ compared : (c : After-all_same)
     →
     let a = c.args in
     let p = a.program.now in
-    let K = key_of class_of (records_of p.code.now) p.starts.now in
+    let K = keys_by p in
     let list = c.keep_if-n.new.clauses in
     c.all_same.result ≡ all_same K a.a (K (get_or list 0 0) a.a) (take c.keep_if-n.result list)
 compared c =
     let a = c.args in
     let p = a.program.now in
-    let K = key_of class_of (records_of p.code.now) p.starts.now in
+    let K = keys_by p in
     let list = c.keep_if-n.new.clauses in
     c.all_same.ensures ∙ ap (λ k. all_same K a.a k (take c.keep_if-n.result list)) c.key_of-key.ensures
 
@@ -86,7 +85,7 @@ picked : (c : After-keep_if-k)
     →
     let a = c.args in
     let p = a.program.now in
-    Front (like_to (key_of class_of (records_of p.code.now) p.starts.now) false a.a a.q (take c.keep_if-n.result c.keep_if-n.new.clauses))
+    Front (like_to (keys_by p) false a.a a.q (take c.keep_if-n.result c.keep_if-n.new.clauses))
     c.keep_if-k.result (moved c)
 unfolding moved
 picked c =
@@ -94,7 +93,7 @@ picked c =
     let p = a.program.now in
     let list = c.keep_if-n.new.clauses in
     let G = take c.keep_if-n.result list in
-    let B = like_to (key_of class_of (records_of p.code.now) p.starts.now) false a.a a.q G in
+    let B = like_to (keys_by p) false a.a a.q G in
     let k = c.keep_if-k in
     front_kept B (drop k.result G ++ drop c.keep_if-n.result list) (moved c) k.result (kept-k c).0
     (ap (λ l. l ++ drop c.keep_if-n.result list) (kept-k c).1 ∙ append_assoc B (drop k.result G) (drop c.keep_if-n.result list))
@@ -104,7 +103,7 @@ picked-known : (c : After-keep_if-k) → every (known c.args.program.now.starts.
 picked-known c e =
     let a = c.args in
     let p = a.program.now in
-    let K = key_of class_of (records_of p.code.now) p.starts.now in
+    let K = keys_by p in
     let G = take c.keep_if-n.result c.keep_if-n.new.clauses in
     ap (every (known p.starts.now)) (picked c).front ∙ known-like (known p.starts.now) K false a.a a.q G e
 
@@ -113,7 +112,7 @@ picked-few : (c : After-keep_if-k) → c.keep_if-n.result ≤ length c.keep_if-n
 picked-few c room few =
     let a = c.args in
     let p = a.program.now in
-    let K = key_of class_of (records_of p.code.now) p.starts.now in
+    let K = keys_by p in
     let list = c.keep_if-n.new.clauses in
     let n : length (take c.keep_if-n.result list) ≡ c.keep_if-n.result = length-take-le c.keep_if-n.result list room in
     omega (arith, (picked c).count, length-like K false a.a a.q (take c.keep_if-n.result list))
@@ -122,7 +121,7 @@ pub returns-then-n-eq0 : goal.returns-then-n-eq0
 returns-then-n-eq0 c =
     let a = c.args in
     let p = a.program.now in
-    let P = program_of class_of p.settings (records_of p.code.now) p.starts.now in
+    let P = predicate_of p in
     let list = c.keep_if-n.new.clauses in
     rw c.no_entry.ensures (record {
       clauses_after = follow-empty P a.a a.clauses.now a.q (search rules) c.keep_if-n.result list (kept-n (goal.at.returns-then-n-eq0 c).After-keep_if-n).0 c.if-n-eq0.true;
@@ -142,7 +141,7 @@ pub returns-then-all_same : goal.returns-then-all_same
 returns-then-all_same c =
     let a = c.args in
     let p = a.program.now in
-    let P = program_of class_of p.settings (records_of p.code.now) p.starts.now in
+    let P = predicate_of p in
     let n = c.keep_if-n.result in
     let list = c.keep_if-n.new.clauses in
     let h : 0 < n = omega (arith, c.if-n-eq0.false) in
@@ -159,7 +158,7 @@ unfolding moved
 returns-then-k-eq0 c =
     let a = c.args in
     let p = a.program.now in
-    let P = program_of class_of p.settings (records_of p.code.now) p.starts.now in
+    let P = predicate_of p in
     let n = c.keep_if-n.result in
     let list = c.keep_if-n.new.clauses in
     let h : 0 < n = omega (arith, c.if-n-eq0.false) in record {
@@ -173,7 +172,7 @@ unfolding moved
 returns c =
     let a = c.args in
     let p = a.program.now in
-    let P = program_of class_of p.settings (records_of p.code.now) p.starts.now in
+    let P = predicate_of p in
     let n = c.keep_if-n.result in
     let list = c.keep_if-n.new.clauses in
     let new = moved (goal.at.returns c).After-keep_if-k in

@@ -1,36 +1,20 @@
 -- The clauses kept stand at the front, and those from place i on are as they were. Assumes nothing.
 use Prim.Native.Nat.{ℕ, ◌<◌}
-use mathlib.Core.Path.{◌≡◌, refl, sym, ap, ◌∙◌}
+use mathlib.Core.Path.{◌≡◌, sym, ap, ◌∙◌}
 use lib.ListN.{length, get_or, length-set}
 use native.Mathlib.Omega.{arith}
 use Rattle.std.proofs.Common.{◌≢◌, get_or-set_other}
-use Rattle.records.specs.Records.{records_of}
-use Rattle.indexing_iter.specs.Classes.{class_of}
-use Rattle.indexing_iter.specs.Clauses.{key_of, known}
-use Rattle.indexing_scan.proofs.HeldLaws.{kept-start, kept-yes, kept-no, kept-all, known_at}
-use borrow.Author.Rules.{rules}
+use Rattle.indexing_iter.specs.Readings.{keys_by}
+use Rattle.indexing_scan.proofs.HeldLaws.{kept-yes, kept-no, kept-all}
 use Rattle.indexing_scan.proofs.unstored.keep_if.Goals as goal
 use Rattle.indexing_scan.proofs.unstored.keep_if.Goals.{then-test, else-test}
-
-pub loop-i-init : goal.loop-i-init
-loop-i-init g c =
-    let a = c.args in
-    let p = a.program.now in
-    (refl, omega arith, λ j h. refl, λ t h. kept-start (λ o. t (key_of class_of (records_of p.code.now) p.starts.now o a.a)) a.clauses.now)
-
-pub key_of-requires : goal.key_of-requires
-key_of-requires g c =
-    let a = c.args in
-    let l = c.loop-i in
-    let p = a.program.now in
-    ap (known p.starts.now) (l.invariant.2 l.i (omega arith)) ∙ known_at (known p.starts.now) a.clauses.now l.i (search rules) (omega arith)
 
 pub loop-i-preserved : goal.loop-i-preserved
 loop-i-preserved g c =
     let a = c.args in
     let l = c.loop-i in
     let p = a.program.now in
-    let K = key_of class_of (records_of p.code.now) p.starts.now in
+    let K = keys_by p in
     let o = get_or l.clauses l.i 0 in
     let h : l.i < length a.clauses.now = omega arith in
     let r : o ≡ get_or a.clauses.now l.i 0 = l.invariant.2 l.i (omega arith) in
@@ -56,4 +40,4 @@ returns-clause-kept g c = λ t u.
     let a = c.args in
     let l = c.loop-i in
     let p = a.program.now in
-    kept-all (λ o. t (key_of class_of (records_of p.code.now) p.starts.now o a.a)) a.clauses.now l.i l.k l.clauses (l.invariant.3 t u) (omega arith)
+    kept-all (λ o. t (keys_by p o a.a)) a.clauses.now l.i l.k l.clauses (l.invariant.3 t u) (omega arith)

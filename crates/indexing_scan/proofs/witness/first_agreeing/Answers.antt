@@ -1,56 +1,40 @@
-use Prim.Native.Nat.{◌+◌}
-use mathlib.Core.Path.{◌≡◌, refl}
-use lib.ListN.{get_or, drop}
-use native.Mathlib.Omega.{arith}
-use Rattle.records.specs.Records.{records_of}
+-- The first of the clauses' offsets at which the clause agrees. Assumes nothing.
+use mathlib.Core.Path.{sym, ◌∙◌}
+use Prim.Native.Nat.{suc}
+use native.Mathlib.Numerals.{add-one}
+use borrow.Author.Rules.{rules}
+use Rattle.std.proofs.Common.{tests}
+use Rattle.std.proofs.lemmas.Iterator.{YieldsList-from_slice, YieldsList-from_map}
+use Rattle.std.proofs.lemmas.Iterator.Adapters.{serves_from_places, option_map_id}
+use Rattle.std.proofs.lemmas.Iterator.Search.{find_from_yields_List}
 use Rattle.indexing_iter.specs.Classes.{class_of}
 use Rattle.indexing_iter.specs.Clauses.{offsets_of}
-use Rattle.indexing.specs.Lists.{add, keep}
-use Rattle.indexing.specs.Build.{program_of}
 use Rattle.indexing_scan.specs.Agree.{agree}
-use Rattle.indexing_scan.specs.Calls.{call_of, agreeing}
-use Rattle.indexing_scan.specs.Witness.{first_of}
-use Rattle.indexing_scan.proofs.WitnessLaws.{first_step, first_done, clause-offset}
-use borrow.Author.Rules.{rules}
-use Rattle.indexing_scan.proofs.witness.first_agreeing.Goals.{After-agrees}
+use Rattle.indexing_scan.specs.Calls.{agreeing}
+use Rattle.indexing_scan.specs.Readings.{predicate_of, asked_by}
+use Rattle.indexing_scan.proofs.WitnessLaws.{start-at, offset-at, find-first}
 use Rattle.indexing_scan.proofs.witness.first_agreeing.Goals as goal
 
--- in a turn: the clause at this place, and those after it
-turn : (c : After-agrees)
-    → let i = c.loop-start.start-index in
-    let p = c.args.query.now.program in
-    let P = program_of class_of p.settings (records_of p.code.now) p.starts.now in
-    let Q = call_of c.args.query.now.call.now in
-    first_of (add c.agrees.result (get_or p.starts.now i 0 + 1) (keep (agree P Q) (offsets_of (drop (i + 1) p.starts.now))))
-    ≡ first_of (agreeing class_of p.code.now p.starts.now p.settings c.args.query.now.call.now)
-turn c = let l = c.loop-start in
-    let p = c.args.query.now.program in
-    let P = program_of class_of p.settings (records_of p.code.now) p.starts.now in
-    let Q = call_of c.args.query.now.call.now in
-    rw (first_step (agree P Q) p.starts.now l.start-index (search rules), ← c.agrees.ensures) at l.invariant
+pub find-requires-clause-can : goal.find-requires-clause-can
+find-requires-clause-can c = let p = c.args.query.now.program in (
+  search rules,
+  serves_from_places (YieldsList-from_slice p.starts.now (rw c.map.ensures.source c.iter.ensures.rest)) (λ x q r. search (rules, tests))
+      (λ x k h e. let o = start-at class_of p.settings.arity p.code.now p.starts.now p.checked k x.now h e in search (rules, o)),
+)
 
-pub loop-start-init : goal.loop-start-init
-unfolding agreeing
-loop-start-init c = refl
-
-pub overflow_add-offset : goal.overflow_add-offset
-overflow_add-offset c = let p = c.args.query.now.program in
-    let o = clause-offset class_of p.settings.arity p.code.now p.starts.now c.loop-start.start-index p.checked (search rules) in
-    record { fits = omega (arith, o.1) }
-
-pub agrees-requires : goal.agrees-requires
-agrees-requires c = let p = c.args.query.now.program in
-    let o = clause-offset class_of p.settings.arity p.code.now p.starts.now c.loop-start.start-index p.checked (search rules) in
-    o.0
-
-pub returns-then-agrees : goal.returns-then-agrees
-returns-then-agrees c = rw c.if-agrees.true at (turn (goal.at.returns-then-agrees c).After-agrees)
-
-pub loop-start-preserved : goal.loop-start-preserved
-loop-start-preserved c = rw c.if-agrees.false at (turn (goal.at.loop-start-preserved c).After-agrees)
+pub find-requires-clause-callable : goal.find-requires-clause-callable
+find-requires-clause-callable c = let p = c.args.query.now.program in
+    serves_from_places
+    (YieldsList-from_map _ suc (YieldsList-from_slice p.starts.now (rw c.map.ensures.source c.iter.ensures.rest)) c.map.ensures.closure (λ x r q k. search (rules, tests, add-one x.now)))
+    (λ x q r. search (rules, tests))
+    (λ x k h e. let o = offset-at class_of p.settings.arity p.code.now p.starts.now p.checked k x h e in search (rules, o))
 
 pub returns : goal.returns
+unfolding agreeing
 returns c = let p = c.args.query.now.program in
-    let P = program_of class_of p.settings (records_of p.code.now) p.starts.now in
-    let Q = call_of c.args.query.now.call.now in
-    rw (first_done (agree P Q) p.starts.now c.loop-start.start-index (search rules)) at c.loop-start.invariant
+    let t = agree (predicate_of p) (asked_by c.args.query.now) in
+    sym (option_map_id c.find.result)
+    ∙ find_from_yields_List t _ _ c.find.result c.find.ensures.ran
+    (YieldsList-from_map _ suc (YieldsList-from_slice p.starts.now (rw c.map.ensures.source c.iter.ensures.rest)) c.map.ensures.closure (λ x r q k. search (rules, tests, add-one x.now)))
+    (λ x b q k. search (rules, tests))
+    ∙ find-first t (offsets_of p.starts.now)

@@ -23,8 +23,3 @@ returns c =
     let m = c.in_ok-program.ensures.made in
     let f = rw (m.0, m.1, m.2) at c.first_agreeing.ensures in
     found_first class_of a.code.now a.starts.now a.settings a.call.now (sym c.in_ok-program.ensures.value) c.first_agreeing.result (sym c.in_ok-check_call.ensures) f
-
-pub invariant_of-query : goal.invariant_of-query
-invariant_of-query c =
-    let m = c.in_ok-program.ensures.made in
-    record { checked = rw m.2 (sym c.in_ok-check_call.ensures) }

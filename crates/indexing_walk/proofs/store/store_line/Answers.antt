@@ -3,14 +3,10 @@ use native.Mathlib.Omega.{arith}
 use lib.ListN.{length}
 use borrow.Author.Rules.{rules}
 use Rattle.records.proofs.Whole.{Bytes}
-use Rattle.indexing_walk.proofs.StandLaws.{AtDemand, within}
+use Rattle.indexing_walk.proofs.StandLaws.{demand-in, within}
 use Rattle.indexing_walk.proofs.ExpandLaws.{read_count, read-offs, read-tags, Grows, demanded, grows}
-use Rattle.indexing_walk.proofs.store.store_line.Goals.{After-indices_of_arg-x, Start}
+use Rattle.indexing_walk.proofs.store.store_line.Goals.{After-indices_of_arg-x}
 use Rattle.indexing_walk.proofs.store.store_line.Goals as goal
-
--- the walk is at an on-demand table, in checked code
-due : (s : Start) → AtDemand s.args.program.now.code.now s.args.program.now.starts.now s.args.program.now.settings s.args.index.now s.args.w s.args.a
-due s = record { ready = record { checked = s.args.program.now.checked; stands = s.requires.stands }; kind = s.requires.zero_rec_value.0; half = s.requires.zero_rec_value.1 }
 
 -- where the walk stands by the expansion's answer
 grown : (c : After-indices_of_arg-x)
@@ -20,8 +16,7 @@ grown : (c : After-indices_of_arg-x)
     Grows a.program.now.code.now a.program.now.starts.now a.program.now.settings a.index.now a.w a.a d.new.index d.result
 grown c own bytes =
     let a = c.args in
-    let due : AtDemand a.program.now.code.now a.program.now.starts.now a.program.now.settings a.index.now a.w a.a =
-    record { ready = record { checked = c.args.program.now.checked; stands = c.requires.stands }; kind = c.requires.zero_rec_value.0; half = c.requires.zero_rec_value.1 } in
+    let due = demand-in c.args.program.now c.requires.stands c.requires.table in
     let d = c.indices_of_arg-x in
     grows due c.capacity.result own bytes
     c.requires.list_len.1 d.new.index d.result d.ensures
@@ -29,7 +24,7 @@ grown c own bytes =
 pub read_choices-requires : goal.read_choices-requires
 read_choices-requires c =
     let line = c.requires.q_value in
-    (omega (arith, (read_count (due (goal.at.read_choices-requires c).Start) c.args.q (length c.args.list.now) line.0 line.1).0, within (due (goal.at.read_choices-requires c).Start).ready), refl, c.requires.list_len.0)
+    (omega (arith, (read_count (demand-in c.args.program.now c.requires.stands c.requires.table) c.args.q (length c.args.list.now) line.0 line.1).0, within (demand-in c.args.program.now c.requires.stands c.requires.table).ready), c.requires.list_len.0)
 
 pub indices_of_arg-x-requires : goal.indices_of_arg-x-requires
 indices_of_arg-x-requires c =
@@ -39,8 +34,8 @@ indices_of_arg-x-requires c =
     let list = r.new.offs in
     let tags = r.new.tags in
     let k = c.capacity in
-    demanded (due (goal.at.indices_of_arg-x-requires c).Start) k.result list tags k.ensures.value (read-offs (due (goal.at.indices_of_arg-x-requires c).Start) a.q (length a.list.now) line.0 line.1 list r.ensures.offs_after)
-    (read-tags (due (goal.at.indices_of_arg-x-requires c).Start) a.q (length a.list.now) line.0 line.1 tags r.ensures.tags_after)
+    demanded (demand-in c.args.program.now c.requires.stands c.requires.table) k.result list tags k.ensures.value (read-offs (demand-in c.args.program.now c.requires.stands c.requires.table) a.q (length a.list.now) line.0 line.1 list r.ensures.offs_after)
+    (read-tags (demand-in c.args.program.now c.requires.stands c.requires.table) a.q (length a.list.now) line.0 line.1 tags r.ensures.tags_after)
 
 pub returns : goal.returns
 returns c = let go = rw c.in-Some.is at (grown (goal.at.returns c).After-indices_of_arg-x c.args.program.now.bytes (λ i. search rules)) in

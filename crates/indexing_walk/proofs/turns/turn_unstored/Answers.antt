@@ -1,5 +1,4 @@
-use mathlib.Core.Path.{◌≡◌, refl, ap, ◌∙◌}
-use mathlib.Core.Bool.{true}
+use mathlib.Core.Path.{◌≡◌, refl, ap}
 use mathlib.Core.List.{[], ◌++◌}
 use Prim.Native.Nat.{◌+◌, ◌-◌, ◌≤◌}
 use native.Mathlib.Omega.{arith}
@@ -7,42 +6,28 @@ use lib.ListN.{length, take, drop}
 use lib.Seq.{length-take-le, take-append-le}
 use Rattle.records.specs.Records.{records_of}
 use Rattle.indexing_iter.specs.Classes.{class_of}
-use Rattle.indexing_iter.specs.Clauses.{known}
 use Rattle.indexing.specs.Build.{program_of}
-use Rattle.indexing.specs.Lists.{every}
 use Rattle.indexing_scan.specs.Calls.{call_of}
-use Rattle.indexing_scan.specs.Places.{is_table}
 use Rattle.indexing_scan.specs.Walk.{unstored}
 use Rattle.indexing_scan.specs.declared.unstored.Finished.{Finished}
-use Rattle.indexing_walk.proofs.StandLaws.{AtDemand, Ready}
+use Rattle.indexing_walk.proofs.StandLaws.{demand-in, ready-in}
 use Rattle.indexing_walk.proofs.LineLaws.{LineRead, place_in, room, line_read, arity-32}
 use Rattle.indexing_walk.proofs.ReadyLaws.{small, table-range, to-pass}
-use Rattle.indexing_walk.proofs.TurnLaws.{AtTable}
+use Rattle.indexing_walk.proofs.TurnLaws.{demand-table}
 use Rattle.indexing_walk.proofs.NarrowLaws.{Narrows, front-of, narrows, path-few}
 use borrow.Author.Rules.{rules}
 use Rattle.indexing_walk.proofs.turns.turn_unstored.Goals.{After-demand_at, After-finish-f, After-read_line-m, In-Bucket, Start}
 use Rattle.indexing_walk.proofs.turns.turn_unstored.Goals as goal
 
--- the walk is at an on-demand table, in checked code
-due : (s : Start) → AtDemand s.args.query.now.program.code.now s.args.query.now.program.starts.now s.args.query.now.program.settings s.args.index.now s.args.w s.args.a
-due s = let at = s.requires.zero_rec_value in
-    record { ready = record { checked = s.args.query.now.program.checked; stands = s.requires.stands }; kind = at.0; half = at.1 }
-
--- a table's argument is one of the few
-table : (s : Start) → AtTable s.args.query.now.program.code.now s.args.query.now.program.starts.now s.args.query.now.program.settings s.args.index.now s.args.w s.args.a
-table s = let at = s.requires.zero_rec_value in
-    record { ready = record { checked = s.args.query.now.program.checked; stands = s.requires.stands }; half = at.1; table = ap is_table at.0 }
-
 one-more : (s : Start) → (s.args.w.tables ≤ 64) × (1 ≤ 64)
-one-more s = ((small (table s).ready).0, omega arith)
+one-more s = ((small (ready-in s.args.query.now.program s.requires.stands)).0, omega arith)
 
 -- the offsets of its line are read
 read : (c : After-read_line-m)
     → let a = c.args in LineRead a.query.now.program.starts.now a.index.now a.w (take c.read_line-m.result c.read_line-m.new.list)
 read c =
     let a = c.args in
-    let due : AtDemand a.query.now.program.code.now a.query.now.program.starts.now a.query.now.program.settings a.index.now a.w a.a =
-    record { ready = record { checked = a.query.now.program.checked; stands = c.requires.stands }; kind = c.requires.zero_rec_value.0; half = c.requires.zero_rec_value.1 } in
+    let due = demand-in c.args.query.now.program c.requires.stands c.requires.table in
     let r = c.read_line-m in
     line_read due.ready r.result r.new.list c.args.list.now r.ensures.0 r.ensures.1
 
@@ -52,28 +37,26 @@ narrowed : (c : After-demand_at)
     Narrows a.query.now.program.code.now a.query.now.program.starts.now a.query.now.program.settings a.query.now.call.now a.index.now a.w a.a c.demand_at.new.clauses c.demand_at.result
 narrowed c =
     let a = c.args in
-    let due : AtDemand a.query.now.program.code.now a.query.now.program.starts.now a.query.now.program.settings a.index.now a.w a.a =
-    record { ready = record { checked = a.query.now.program.checked; stands = c.requires.stands }; kind = c.requires.zero_rec_value.0; half = c.requires.zero_rec_value.1 } in
+    let due = demand-in c.args.query.now.program c.requires.stands c.requires.table in
     let r = c.read_line-m in
     let d = c.demand_at in
     narrows due c.args.query.now.call.now c.args.q c.requires.q_value.0 c.requires.q_value.1 c.requires.off
     d.new.clauses (take r.result r.new.list) d.result (line_read due.ready r.result r.new.list c.args.list.now r.ensures.0 r.ensures.1) d.ensures.clauses_after d.ensures.held
 
-pub invariant_of-stored : goal.invariant_of-stored
-invariant_of-stored c = record { within = (place_in (due (goal.at.invariant_of-stored c).Start).ready).1 }
+pub read_line-m-requires-clause-at_le_count : goal.read_line-m-requires-clause-at_le_count
+read_line-m-requires-clause-at_le_count c = place_in (ready-in c.args.query.now.program c.requires.stands)
 
 -- the list has room for them
 in_list : (c : After-read_line-m) → (c.read_line-m.result ≤ 1024) × (c.read_line-m.result ≤ length c.read_line-m.new.list)
 in_list c =
     let a = c.args in
-    let due : AtDemand a.query.now.program.code.now a.query.now.program.starts.now a.query.now.program.settings a.index.now a.w a.a =
-    record { ready = record { checked = a.query.now.program.checked; stands = c.requires.stands }; kind = c.requires.zero_rec_value.0; half = c.requires.zero_rec_value.1 } in
+    let due = demand-in c.args.query.now.program c.requires.stands c.requires.table in
     let len : length c.read_line-m.new.list ≡ length a.list.now = search rules in
     let n : c.read_line-m.result ≤ 1024 = omega (arith, c.read_line-m.ensures.0, room due.ready 1024 refl) in
     (n, omega (arith, n, len))
 
-pub read_line-m-requires-clause-p_in_bounds : goal.read_line-m-requires-clause-p_in_bounds
-read_line-m-requires-clause-p_in_bounds c = room (due (goal.at.read_line-m-requires-clause-p_in_bounds c).Start).ready (length c.args.list.now) (omega arith)
+pub read_line-m-requires-clause-at_in_bounds : goal.read_line-m-requires-clause-at_in_bounds
+read_line-m-requires-clause-at_in_bounds c = room (demand-in c.args.query.now.program c.requires.stands c.requires.table).ready (length c.args.list.now) (omega arith)
 
 pub slice_bounds-demand_at-end : goal.slice_bounds-demand_at-end
 slice_bounds-demand_at-end c = (in_list (goal.at.slice_bounds-demand_at-end c).After-read_line-m).0
@@ -92,17 +75,11 @@ bucket c =
     let h : c.in-Bucket.k ≤ length d.new.clauses = omega (arith, within, len) in
     (h, take-append-le c.in-Bucket.k d.new.clauses _ h)
 
-pub finish-f-requires-clause-clauses_value : goal.finish-f-requires-clause-clauses_value
-finish-f-requires-clause-clauses_value c =
-    let o : every (known c.args.query.now.program.starts.now) (take c.in-Bucket.k c.demand_at.new.clauses) ≡ true = rw c.in-Bucket.is at c.demand_at.ensures.held.offsets in
-    ap (every (known c.args.query.now.program.starts.now)) (bucket (goal.at.finish-f-requires-clause-clauses_value c).In-Bucket).1 ∙ o
-
 -- the answer from a bucket looks at few tables
 few-tables : (c : After-finish-f) → c.finish-f.result.tables ≤ 32
 few-tables c =
     let a = c.args in
-    let ready : Ready a.query.now.program.code.now a.query.now.program.starts.now a.query.now.program.settings a.index.now a.w =
-    record { checked = a.query.now.program.checked; stands = c.requires.stands } in
+    let ready = ready-in c.args.query.now.program c.requires.stands in
     let few = path-few (program_of class_of a.query.now.program.settings (records_of a.query.now.program.code.now) a.query.now.program.starts.now) (call_of a.query.now.call.now) (a.query.now.program.settings.arity + 1 - (a.a + 1)) (a.a + 1) []
     (unstored (take c.in-Bucket.k (c.demand_at.new.clauses ++ drop c.read_line-m.result c.read_line-m.new.list))) in
     omega (arith, few, ap (λ (y : Finished). y.tables) c.finish-f.ensures.result_value, arity-32 ready)
@@ -114,7 +91,7 @@ pub end_with-requires-in-Bucket : goal.end_with-requires-in-Bucket
 end_with-requires-in-Bucket c = ((one-more (goal.at.end_with-requires-in-Bucket c).Start).0, omega (arith, few-tables (goal.at.end_with-requires-in-Bucket c).After-finish-f))
 
 pub pass_table-requires : goal.pass_table-requires
-pass_table-requires c = to-pass (table (goal.at.pass_table-requires c).Start)
+pass_table-requires c = to-pass (demand-table (demand-in c.args.query.now.program c.requires.stands c.requires.table))
 
 pub end_with-requires : goal.end_with-requires
 end_with-requires c = one-more (goal.at.end_with-requires c).Start
@@ -123,13 +100,10 @@ pub end_with-requires-in-Single : goal.end_with-requires-in-Single
 end_with-requires-in-Single c = one-more (goal.at.end_with-requires-in-Single c).Start
 
 pub overflow_add-a : goal.overflow_add-a
-overflow_add-a c = record { fits = omega (arith, (table-range (table (goal.at.overflow_add-a c).Start)).2) }
+overflow_add-a c = record { fits = omega (arith, (table-range (demand-table (demand-in c.args.query.now.program c.requires.stands c.requires.table))).2) }
 
 pub finish-f-requires-clause-le_a : goal.finish-f-requires-clause-le_a
-finish-f-requires-clause-le_a c = (omega arith, omega (arith, (table-range (table (goal.at.finish-f-requires-clause-le_a c).Start)).1))
-
-pub returns-in-NoTable : goal.returns-in-NoTable
-returns-in-NoTable c = absurd (rw c.in-NoTable.is at (narrowed (goal.at.returns-in-NoTable c).After-demand_at))
+finish-f-requires-clause-le_a c = (omega arith, omega (arith, (table-range (demand-table (demand-in c.args.query.now.program c.requires.stands c.requires.table))).1))
 
 pub returns-in-Passed : goal.returns-in-Passed
 returns-in-Passed c = let go = rw c.in-Passed.is at (narrowed (goal.at.returns-in-Passed c).After-demand_at) in

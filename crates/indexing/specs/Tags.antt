@@ -1,0 +1,17 @@
+-- The tags of a line's offsets by their numbers (document 01, section 3).
+-- Assumes nothing.
+use Rattle.std.specs.Prelude.{ℕ, cond, eqb, Result, Ok, Err}
+use Rattle.indexing.specs.declared.tags.Tag.{Tag}
+use Rattle.indexing.specs.declared.tags.Tag.TheVariants.{Try, Retry, DefaultRetry, Trust, DefaultTrust, A, Z}
+use Rattle.indexing.specs.declared.tags.UnknownTag.{UnknownTag}
+
+-- the tag of a number
+abbrev pub tag_from : ℕ → Result Tag UnknownTag
+tag_from n =
+    cond (eqb n 1) (Ok Try)
+    (cond (eqb n 2) (Ok Retry)
+    (cond (eqb n 3) (Ok DefaultRetry)
+    (cond (eqb n 4) (Ok Trust)
+    (cond (eqb n 5) (Ok DefaultTrust)
+    (cond (eqb n 6) (Ok A)
+    (cond (eqb n 7) (Ok Z) (Err (record { 0 = n }))))))))

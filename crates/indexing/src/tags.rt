@@ -1,0 +1,40 @@
+// The tags of a line's offsets.
+ghost use Rattle.std.specs.Prelude.{◌≡◌};
+ghost use Rattle.indexing.specs.Tags.{tag_from};
+
+// How a clause is tried among the clauses of its line: in a static line by its place, by the default forms where choice points are not counted; in a
+// dynamic line A or Z.
+#[derive(Clone, Copy, Debug, PartialEq, Eq)]
+pub enum Tag {
+    Try = 1,
+    Retry = 2,
+    DefaultRetry = 3,
+    Trust = 4,
+    DefaultTrust = 5,
+    A = 6,
+    Z = 7,
+}
+
+// A number that is no tag: the number that was met, for whoever reports it.
+#[derive(Clone, Copy, Debug, PartialEq, Eq)]
+pub struct UnknownTag(pub u8);
+
+// Kind has such an impl too: each enum has its own cases, and an impl by a macro of our own is refused by `rt ci`.
+impl TryFrom<u8> for Tag {
+    type Error = UnknownTag;
+
+    ghost try_from_gives = { λ n tag. tag ≡ tag_from n };
+
+    fn try_from(n: u8) -> Result<Self, UnknownTag> {
+        match n {
+            1 => Ok(Tag::Try),
+            2 => Ok(Tag::Retry),
+            3 => Ok(Tag::DefaultRetry),
+            4 => Ok(Tag::Trust),
+            5 => Ok(Tag::DefaultTrust),
+            6 => Ok(Tag::A),
+            7 => Ok(Tag::Z),
+            _ => Err(UnknownTag(n)),
+        }
+    }
+}
