@@ -14,6 +14,7 @@ KINDS = ("build", "first", "later", "bound")
 PARTS = {
     "indexing_iter::checks::check_clauses_of": "code",
     "indexing_iter::checks::check_clause": "code",
+    "indexing_iter::checks::first_refused": "code",
     "podrulka_walk": "index",
     "well_formed::check_records": "index",
     "well_formed::formed_in": "index",
