@@ -1,4 +1,5 @@
 // The size of the index that the builder would write: how many records it takes, whatever the room.
+// Code, starts and settings stand one by one where nothing is checked yet: a Program is what they are afterwards.
 #![tactic(auto)]
 
 ghost use Rattle.std.specs.Prelude.{◌≡◌};

@@ -3,7 +3,7 @@
 // A writer takes the index and a place and gives back the place after what it wrote. A struct of both would hold the lent index: each contract would
 // speak of that field's states, and no call would be shorter.
 // i is below the number of clauses in each function that reads a column at i: the bound is of a number that is another in each call. count_lines and
-// list_lines alone ask that there are at most 1,024 clauses.
+// list_lines ask that there are at most 1,024 clauses: the other readers of Buckets ask no bound, so it is no field.
 ghost use Rattle.std.specs.Prelude.{◌≡◌, cond, List, ℕ, ◌+◌, ◌*◌, ◌≤◌, ◌<◌, length};
 ghost use Rattle.records.specs.Records.{records_of};
 ghost use Rattle.records.specs.Pointer.{internal_word};

@@ -1,4 +1,6 @@
 // The clauses of a line, in columns: a column has a number for each clause. Each struct holds the columns that the functions on it read.
+// Columns stay parallel arrays (see columns.rt). Heads, Buckets and Choices have no bound of 1,024: some of their readers ask none. opens has a number 0 or 1
+// for each argument, as the definitions have it; read_keys and fill_columns are public, and another type would ask more of their callers.
 ghost use Rattle.std.specs.Prelude.{◌≡◌, ◌*◌, ◌≤◌, length};
 ghost use Rattle.indexing.specs.Columns.{sizes_to};
 

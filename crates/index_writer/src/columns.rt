@@ -1,5 +1,5 @@
 // The columns of a line's clauses at one argument: offsets and tags, keys, open arguments, leaders and bucket sizes.
-// Columns are parallel arrays of fixed size (no heap). A function reads some of them alone: keys heads and bits, rooms leaders, heads and opens.
+// Columns are parallel arrays of fixed size (no heap). A function reads some of them alone: keys heads and bits, rooms all but bits, offs and tags.
 // An array of structs would hand each function fields that it does not read.
 // A column that is being filled has its length in each contract: it is not yet what a struct says of it.
 // A u32 becomes a usize by `as`, since there is no From for it. A place becomes a u32 by `as`: there are at most 1,024 clauses.
@@ -116,6 +116,7 @@ fn lead_columns(keys: &Keys, leaders: &mut [u32], sizes: &mut [u32])
     count_sizes(leaders, sizes);
 }
 
+// heads is read by place: arity, heads and opens have three lengths.
 // The open arguments of a clause, by the heads of its keys.
 fn put_open_row(opens: &mut [u8], heads: &[u32], arity: u32)
     requires { (length opens.old ≡ 32) × (arity ≤ length heads.now) × (arity ≤ 32) }

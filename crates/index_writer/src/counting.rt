@@ -1,4 +1,5 @@
-// Clauses that pass a test: how many, and whether there is one. `map`, `filter` and `count` over the range were tried: a build took 6 % more instructions.
+// Clauses that pass a test: how many, and whether there is one. `any`, and `map`, `filter` and `count`
+// over the range were tried: a build took 6 % more instructions.
 ghost use Rattle.std.specs.Prelude.{◌≡◌, Bool, ℕ, ◌≤◌, ◌<◌};
 ghost use Rattle.indexing.specs.Upto.{count_to, any_to};
 

@@ -1,7 +1,7 @@
 // The keys of a line's clauses at one argument, in columns: each key is two numbers, its sort and arity in one, and its bits.
 ghost use Rattle.std.specs.Prelude.{◌≡◌, ◌≤◌, length};
 
-// A place becomes a u32 by `as`: there are at most 1,024 clauses.
+// heads and bits are read by place, beside columns of other numbers: no array of pairs. A place becomes a u32 by `as`: there are at most 1,024 clauses.
 #[derive(Clone, Copy)]
 pub struct Keys<'a> {
     pub heads: &'a [u32],

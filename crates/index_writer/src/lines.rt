@@ -60,6 +60,7 @@ pub fn put_seed(index: &mut [u8], clauses: &Clauses, switched: Switched) -> usiz
     put_rest(index, 2, clauses, switched, 0)
 }
 
+// Opens is written out here and in rooms::new_line_room: a method would promise by equations what the literal says by itself.
 // Writes the new line of a number for the bucket that clause i leads, and returns the place after it.
 fn put_new_line(index: &mut [u8], p: usize, lines: &NewLines, number: u32, i: usize) -> usize
     requires { p + length (new_line_by lines.now number i) ≤ length (records_of index.old) }

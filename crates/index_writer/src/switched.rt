@@ -1,5 +1,5 @@
 // The settings of a predicate with the argument that a line's switch is on.
-// All settings are handed on, also where mask and extensible alone are read: a value of them is at hand everywhere, and asks nothing of callers.
+// All settings are handed on, also where mask and extensible alone are read: a value of them is at hand everywhere, and may hold any other numbers.
 ghost use Rattle.std.specs.Prelude.{◌≤◌};
 
 use indexing_iter::Settings;

@@ -1,5 +1,6 @@
 // Buckets of numbered items: equal keys are looked for in one bucket only.
 // A usize becomes a u64 or a u16, and a u64 a usize, by `as`: there is no From for them. Each is proved to fit.
+// That a bucket is below the number of buckets is asked of push and find, and of who calls them: bucket_of says it of its answer.
 ghost use Rattle.std.specs.Prelude.{◌≡◌, Bool, ℕ, ◌+◌, ◌<◌, ◌≤◌, eqb, get_or, set};
 ghost use Rattle.indexing.specs.Chains.{bucket_by, Chained, Cleared, Tells};
 

@@ -3,6 +3,7 @@ ghost use Rattle.std.specs.Prelude.{◌≡◌};
 ghost use Rattle.indexing.specs.Kinds.{kind_in};
 
 // What a record of an index is. A table is a record of its own with the records of its entries or dead clauses behind it.
+// A kind becomes its byte by `as`, as a tag does, which computes: a From would promise it by an equation that each proof has to use.
 #[derive(Clone, Copy, Debug, PartialEq, Eq)]
 pub enum Kind {
     Line = 1,

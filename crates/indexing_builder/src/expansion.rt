@@ -1,4 +1,5 @@
 // The expansion of an on-demand table on the buffer: its room is counted first, the tail moves up, and new lines go to the end.
+// Placed t is asked of three functions: it is of a table and of the lent index that is written, which no struct holds together.
 ghost use Rattle.std.specs.Prelude.{◌≡◌, [], ◌+◌, ◌-◌, ◌*◌, ◌≤◌, length};
 ghost use Rattle.records.specs.Records.{records_of, Wrote};
 ghost use Rattle.records.specs.Moves.{spliced};

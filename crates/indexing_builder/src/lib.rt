@@ -1,5 +1,6 @@
 // The builder, number 9, and the expansion of an on-demand table on the buffer.
 // Port of scryer-prolog's compute_indices (indexing.rs) and indices_of_arg (indexing_scan.rs).
+// Code, starts and settings stand one by one where nothing is checked yet: a Program is what they are afterwards.
 #![tactic(auto)]
 
 pub mod expansion;

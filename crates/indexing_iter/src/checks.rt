@@ -1,6 +1,7 @@
 // The checks of code, starts and settings, numbers 1 to 8 of document 01's table, the first that applies; and the clause and the record at which 5 to 8 fail.
 // A u32 becomes a usize by `as`: there is no From for it. Each is proved to fit.
 // The loops go by the number of a record: records are sixteen bytes each of a byte buffer, so there is no slice of records to go over.
+// check_code and check_build take code, starts and arity one by one: nothing is checked yet, and a Program is what they are afterwards.
 ghost use Rattle.std.specs.Prelude.{◌≡◌, true, ◌+◌, ◌-◌, ◌≤◌, ◌<◌, length, drop};
 ghost use Rattle.records.specs.Records.{records_of};
 ghost use Rattle.indexing_iter.specs.declared.refusal.Refusal.TheVariants.{NoBody};

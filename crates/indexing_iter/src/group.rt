@@ -9,7 +9,7 @@ pub enum Group {
     Structures = 3,
 }
 
-// The number of a group, 1 to 3.
+// The number of a group, 1 to 3. By hand and by `as`: no derive makes a From of an enum.
 impl From<Group> for u32 {
     ghost from_gives = { λ group n. n ≡ group_number group };
 

@@ -158,6 +158,7 @@ pub fn head_of(k: OptArgIndexKey) -> u32
     head_by(sort_of(k), arity_of(k))
 }
 
+// Head and bits are no struct: they are numbers of two columns, or parts of a record, and stand together in a call alone.
 // Whether two keys, each by its two numbers, are equal. Wherever keys stand as numbers they are compared by this function.
 pub fn same_bits(head: u32, bits: u64, head2: u32, bits2: u64) -> bool
     ensures { result ≡ same_bits head bits head2 bits2 }

@@ -22,7 +22,7 @@ pub enum Refusal {
     Index = 12,
 }
 
-// The number of a refusal, 1 to 12.
+// The number of a refusal, 1 to 12. By hand and by `as`: no derive makes a From of an enum.
 impl From<Refusal> for u32 {
     ghost from_gives = { λ refusal n. n ≡ refusal_number refusal };
 

@@ -2,7 +2,7 @@
 // Program, clauses, argument and key are parameters and no struct: each call narrows other clauses, at another argument.
 // AreClauses is asked of each list of clauses, which is lent to be narrowed: a struct that holds it would make each contract speak of its field's states.
 // The bounds of an argument differ, at most the arity or one above it, and so they stand in each contract.
-// is_open q ≡ false is asked of two functions: the caller has looked whether the call's key is bound. narrow takes both keys, so it is no type's field.
+// is_open q ≡ false is asked of follow_new and demand_at: the caller has looked whether the call's key is bound. narrow takes both keys, so it is no type's field.
 ghost use Rattle.std.specs.Prelude.{◌≡◌, Bool, true, false, [], ◌++◌, ◌+◌, ◌≤◌, length, take, drop};
 ghost use Rattle.indexing_iter.specs.declared.OptArgIndexKey.{OptArgIndexKey};
 ghost use Rattle.indexing_iter.specs.Keys.{is_open};

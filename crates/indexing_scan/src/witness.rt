@@ -1,4 +1,5 @@
 // The witness: the offset of some clause that agrees with a call, from code and call alone.
+// Code, starts and settings stand one by one where nothing is checked yet: a Program is what they are afterwards.
 ghost use Rattle.std.specs.Prelude.{◌≡◌, true};
 ghost use Rattle.indexing_iter.specs.Classes.{class_of};
 ghost use Rattle.indexing_iter.specs.Clauses.{known};

@@ -1,5 +1,7 @@
 // The walk through a stored index, table by table, with expansion on demand: its loop and the public call.
 // Port of scryer-prolog's switch_on_term and its loop (indexing_scan.rs).
+// Code, starts, settings and call are not checked yet where they come in: a Query is what they are afterwards. An index stands at the front of a lent buffer,
+// so its count goes beside. A count of lines becomes a u32 by `as`: there is no From for it.
 #![tactic(auto)]
 
 mod store;

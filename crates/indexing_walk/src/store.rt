@@ -1,4 +1,5 @@
 // The turn at an on-demand table while expansions are stored: the switch and its lines are written, or nothing is stored any more.
+// The lent buffers and the walk are parameters and no struct, as in turns.rt.
 ghost use Rattle.std.specs.Prelude.{◌≡◌, length, true};
 ghost use Rattle.indexing_scan.specs.Places.{first_offset, offsets_at};
 ghost use Rattle.indexing_walk.specs.Walking.{stored_in, StandsIn, Demands, WentIn};

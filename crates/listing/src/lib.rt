@@ -89,10 +89,9 @@ fn print_part(part: &[u8])
     print_lines(&mut text, part);
 }
 
-// Prints n records of an index. The loop goes over places: there is no slice of records.
-fn print_records(index: &[u8], n: usize)
-    requires { n ≤ length (records_of index.now) }
-{
+// Prints records. The loop goes over places: there is no slice of records.
+fn print_records(index: &[u8]) {
+    let n = records::capacity(index);
     for from in (0..n).step_by(128) {
         let part = records::part(index, from, from + (n - from).min(128));
         print_part(part);
@@ -101,7 +100,8 @@ fn print_records(index: &[u8], n: usize)
 
 // Prints the first n records of an index, or all.
 pub fn print_index(index: &[u8], n: usize) {
-    print_records(index, n.min(records::capacity(index)));
+    let count = n.min(records::capacity(index));
+    print_records(records::part(index, 0, count));
 }
 
 // Prints a line that ends in a number.

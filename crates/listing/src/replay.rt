@@ -11,11 +11,10 @@ fn read_head(head: &mut [u8]) -> Rec {
     inputs::first_record(&head[..n])
 }
 
-// Reads n bytes, and answers whether they were there.
-fn read_part(buffer: &mut [u8], n: usize) -> bool
-    requires { n ≤ length buffer.old }
-{
-    io::read_full(0, &mut buffer[..n]) == n
+// Reads as many bytes as a part has, and answers whether they were there.
+fn read_part(part: &mut [u8]) -> bool {
+    let n = part.len();
+    io::read_full(0, part) == n
 }
 
 // Reads the next input and prints its number. Answers how many bytes it has, which stand at the front of the buffer; none where no whole input
@@ -33,7 +32,7 @@ fn next_input(buffer: &mut [u8], number: u64) -> Option<usize>
     if buffer.len() < whole {
         return None;
     }
-    if !read_part(buffer, whole) {
+    if !read_part(&mut buffer[..whole]) {
         return None;
     }
     crate::print_numbered(b"input ", number);

@@ -1,5 +1,6 @@
 // What refuses code, and where: the refusal of the checks, and the clause and the record first at fault.
-// The functions answer an Option: they tell what is at fault, and refuse nothing; the definitions at_clause, fault_in and fault_of are Options.
+// locate, first_open and locate_back answer an Option: they tell what is at fault, and refuse nothing; the definitions at_clause, fault_in and fault_of are
+// Options. Code, starts and arity are not checked yet: no struct says anything of them.
 // c and j are 0 for none, as in the definition fault_of: locate is public, and any number may be handed in as c.
 // A u32 becomes a usize by `as`: there is no From for it.
 #![tactic(auto)]

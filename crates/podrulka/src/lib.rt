@@ -2,7 +2,7 @@
 // include/podrulka.h declares the functions and says what each number means.
 // In podrulka_build, podrulka_size, podrulka_locate, podrulka_walk and podrulka_witness code, starts, arity, mask, flags, c and buffers stand one by one,
 // an index with its record count beside it, a result as numbers: the C interface.
-// A usize is made a u64, and an enum its number, by `as`: From makes neither.
+// A usize is made a u64, and a walk's case its number, by `as`: From makes neither.
 #![tactic(auto)]
 
 ghost use Rattle.std.specs.Prelude.{◌≡◌, [], ◌∷◌, ◌≤◌};

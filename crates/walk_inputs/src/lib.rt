@@ -52,6 +52,7 @@ fn heard(input: &[u8]) -> &[u8]
     input
 }
 
+// A missing record is one of zeros and no None, as in the definitions: each of its fields is then read as 0, which is what the plan says without it.
 // The record at a place where it is that part; else, and past the end, a record of zeros.
 fn record_of(input: &[u8], part: Part, at: usize) -> Rec
     ensures { result ≡ record_of (part_kind part) (records_of input.now) at }

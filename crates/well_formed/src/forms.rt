@@ -1,5 +1,6 @@
 // What number 12 asks of the fields of one record, and of a pointer.
 // A u32 becomes a usize by `as`: there is no From for it.
+// marks, firsts, lines and dynamic stand one by one: the functions are public, and Asked would ask for what they do not read.
 ghost use Rattle.std.specs.Prelude.{◌≡◌, cond, not, ◌&&◌, ◌-◌, ◌<◌, ltb, length, get_or};
 ghost use Rattle.indexing.specs.Reading.{pointer_from};
 ghost use Rattle.indexing_iter.specs.Groups.{group_code};

@@ -20,6 +20,7 @@ ghost use Rattle.indexing.specs.Chains.{Cleared};
 use indexing::kinds::Kind;
 use indexing_iter::group::Group;
 
+// marks holds numbers, as the definition `marked` reads them: a bool for each would be no plainer.
 // What an index is checked against: marks has a 1 at each offset of a clause; total is how many lines the index has.
 #[derive(Clone, Copy)]
 pub struct Asked<'a> {
