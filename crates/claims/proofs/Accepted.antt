@@ -5,9 +5,10 @@ use mathlib.Core.Bool.{Bool, true, false, cond}
 use mathlib.Core.List.{List, [], ◌∷◌}
 use Prim.Native.Nat.{ℕ, suc, ◌≤◌, ◌<◌}
 use native.Mathlib.Omega.{arith}
+use Rattle.std.proofs.lemmas.Bool.{le-leb, ltb-false}
+use Rattle.std.specs.Cmp.Derive.{both_true}
 use lib.Dec.{ltb}
 use lib.ListN.{length, get_or, length-map}
-use borrow.Author.Tests.{ltb-false}
 use Rattle.records.specs.Records.{records_of}
 use Rattle.records.proofs.Whole.{Bytes}
 use Rattle.indexing_iter.specs.declared.Settings.{Settings}
@@ -21,7 +22,6 @@ use Rattle.indexing_iter.specs.Checks.{otherwise, check_code, check_build}
 use Rattle.indexing_iter.proofs.CheckLaws.{Rising, code-arity, code-starts, code-offsets, offset-known, build-code, build-chosen}
 use Rattle.indexing_iter.proofs.KeyLaws.{or-else-first, or-else-next, not-refused, known_small}
 use Rattle.indexing.proofs.Built.{built-is-expanded, keyed-by-checks}
-use Rattle.indexing.proofs.Tests.{both, le-true}
 use Rattle.indexing.specs.Build.{Program, program_of, open_at}
 use Rattle.indexing.specs.Lines.{Index, size}
 use Rattle.indexing.specs.Expand.{expand}
@@ -84,7 +84,7 @@ module _ (cls : ℕ → ℕ) (code starts : List ℕ) (S : Settings) (c : ℕ) (
 rising-ok : (kn : ℕ → Bool) (n : ℕ) (os : List ℕ) → Rising n os → ((i : ℕ) → i < length os → kn (get_or os i 0) ≡ true) → rising_ok kn n os ≡ true
 rising-ok kn n [] r f = refl
 rising-ok kn n (o ∷ os) r f =
-    both (le-true n o r.0) (both (f 0 (omega arith)) (rising-ok kn (suc o) os r.1 (λ i h. f (suc i) (omega arith))))
+    both_true (le-leb n o r.0) (both_true (f 0 (omega arith)) (rising-ok kn (suc o) os r.1 (λ i h. f (suc i) (omega arith))))
 
 -- ---- all of it
 

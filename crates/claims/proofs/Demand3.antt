@@ -8,6 +8,9 @@ use mathlib.Core.List.{List, [], ◌∷◌, map, Memᴰ}
 use Prim.Native.Nat.{ℕ, suc, ◌*◌, ◌≤◌, ◌<◌}
 use native.Mathlib.Nat.{le_refl}
 use native.Mathlib.Omega.{arith}
+use Rattle.std.specs.List.{list_all}
+use Rattle.std.proofs.lemmas.Bool.{le-leb}
+use Rattle.std.specs.Cmp.Derive.{both_true}
 use lib.Dec.{eqb, leb, ltb}
 use lib.ListN.{length, take, drop, get_or}
 use lib.Seq.{take_at}
@@ -23,11 +26,9 @@ use Rattle.indexing.proofs.Built.{built-length}
 use Rattle.indexing.proofs.Grown.{Grown, grown-same, grown-size, grown-fits, grown-length, grown-orderly}
 use Rattle.indexing.proofs.Order.{built-orderly}
 use Rattle.indexing.proofs.Stored.{stored-over}
-use Rattle.indexing.proofs.Tests.{both, le-true}
 use Rattle.indexing.specs.Build.{Program, program_of, build}
 use Rattle.indexing.specs.Builder.{Built, capacity_of, stored, index_of, build_call}
 use Rattle.indexing.specs.Lines.{Index, size}
-use Rattle.indexing.specs.Lists.{every}
 use Rattle.indexing.specs.Reading.{parse}
 use Rattle.well_formed.specs.WellFormed.{well_formed}
 use Rattle.indexing_iter.proofs.CheckLaws.{Rising}
@@ -100,10 +101,10 @@ module _ (cls : ℕ → ℕ) (code starts : List ℕ) (S : Settings) (c : ℕ) (
     parse-is = rw (h.holds, h.counts) (came-parse P (known starts) c os is-ready buffer room h.idx came)
 
     index-passes : check_index S starts index count ≡ passed
-    index-passes = ap (λ (t : Bool). refuse (not t) IndexOf) (both count_fits well)
+    index-passes = ap (λ (t : Bool). refuse (not t) IndexOf) (both_true count_fits well)
       where
         count_fits : leb count (capacity_of index) ≡ true
-        count_fits = le-true count (capacity_of index) (omega (arith, capacity-is, h.counts, grown-fits P cap came room))
+        count_fits = le-leb count (capacity_of index) (omega (arith, capacity-is, h.counts, grown-fits P cap came room))
 
         well : well_formed S.arity S.dynamic (known starts) (take count (records_of index)) ≡ true
         well = rw (h.holds, h.counts) (came-well P (known starts) c os is-ready buffer room h.idx came)
@@ -126,7 +127,7 @@ module _ (cls : ℕ → ℕ) (code starts : List ℕ) (S : Settings) (c : ℕ) (
       unfolding walk_call
       by-outcome X ten eleven accepted =
           rw (build-code cls S.arity code starts c (built-checked cls code starts S c buffer accepts), index-passes)
-          (go (not (eqb (length q.call) (16 * S.arity) && every argument_ok (records_of q.call))) (ltb (length q.out) (length starts)))
+          (go (not (eqb (length q.call) (16 * S.arity) && list_all argument_ok (records_of q.call))) (ltb (length q.out) (length starts)))
         where
           go : (t u : Bool)
               → X (walked_by (otherwise (refuse t CallOf) (otherwise (refuse u Out) passed)) S (result_of cls code starts S q.call index count) index q.out)

@@ -5,19 +5,18 @@ use mathlib.Core.Bool.{true, false}
 use mathlib.Core.List.{List, [], ◌∷◌}
 use Prim.Native.Nat.{ℕ, zero, suc, ◌*◌, ◌≤◌, ◌<◌}
 use native.Mathlib.Omega.{arith}
-use lib.Dec.{T, ltb, ltb→lt}
+use Rattle.std.specs.List.{list_all}
+use Rattle.std.proofs.lemmas.Bool.{and_parts, le-ltb, ltb-true}
+use lib.Dec.{T, ltb}
 use lib.ListN.{length, get_or, replicate, length-replicate}
-use borrow.Author.Tests.{le-ltb}
 use Rattle.records.specs.Records.{decode, encode_rec, encode, recs, records_of}
 use Rattle.indexing_iter.specs.Classes.{class_of, arg_of_class}
 use Rattle.indexing_iter.specs.Keys.{key_in}
 use Rattle.indexing_iter.specs.Clauses.{clauses_of, clause_at, key_of, known}
 use Rattle.indexing_iter.specs.Checks.{rising_below, has_body, record_bad, check_records, check_clause, check_clauses, open_somewhere, check_clauses_of, check_code, check_build}
-use Rattle.indexing.proofs.Tests.{true-T, and-true}
 use Rattle.indexing.specs.Build.{build}
 use Rattle.indexing.specs.Expand.{expand_at}
 use Rattle.indexing.specs.Builder.{capacity_of, stored, index_of, build_call}
-use Rattle.indexing.specs.Lists.{every}
 use Rattle.indexing_scan.specs.Walk.{walk_on}
 use Rattle.indexing_scan.specs.Calls.{argument_ok, call_of, result_of, walk_call}
 use Rattle.claims.specs.Demand3.{Every}
@@ -32,10 +31,10 @@ worked-walks = tt
 
 -- ---- the hypotheses of demand 3 hold, so that it speaks of these walks
 
-below : (n : ℕ) (xs : List ℕ) → 0 < n → every (λ x. ltb x n) xs ≡ true → (i : ℕ) → get_or xs i 0 < n
+below : (n : ℕ) (xs : List ℕ) → 0 < n → list_all (λ x. ltb x n) xs ≡ true → (i : ℕ) → get_or xs i 0 < n
 below n [] h e i = h
-below n (x ∷ xs) h e zero = ltb→lt x n (true-T (and-true (ltb x n) (every (λ x. ltb x n) xs) e).0)
-below n (x ∷ xs) h e (suc i) = below n xs h (and-true (ltb x n) (every (λ x. ltb x n) xs) e).1 i
+below n (x ∷ xs) h e zero = ltb-true x n (and_parts (ltb x n) (list_all (λ x. ltb x n) xs) e).0
+below n (x ∷ xs) h e (suc i) = below n xs h (and_parts (ltb x n) (list_all (λ x. ltb x n) xs) e).1 i
 
 code-bytes : (i : ℕ) → get_or code i 0 < 256
 unfolding code encode encode_rec

@@ -9,6 +9,7 @@ use mathlib.Core.Option.{Option, none, some}
 use Prim.Native.Nat.{ℕ, zero, suc, ◌+◌, ◌≤◌, ◌<◌, ◌-◌}
 use native.Mathlib.Decide.{ℕ_discrete}
 use native.Mathlib.Omega.{arith}
+use Rattle.std.specs.List.{list_any}
 use lib.ListN.{length}
 use Rattle.indexing_iter.specs.Keys.{is_open, same}
 use Rattle.indexing_iter.specs.declared.OptArgIndexKey.{OptArgIndexKey as Key}
@@ -22,7 +23,6 @@ use Rattle.indexing.specs.Build.{Program, open_at, virtual, new_entries, build}
 use Rattle.indexing.specs.Expand.{expanded, expand}
 use Rattle.indexing.specs.Seed.{seed}
 use Rattle.indexing.specs.Lines.{Ptr, ext, int, Entry, Table, switch, on_demand, dead, Index, line_at, offs, find}
-use Rattle.indexing.specs.Lists.{any_of}
 use Rattle.indexing_scan.proofs.Choose.{Ways, ways-none, ways-some, choose-linked}
 use Rattle.indexing_scan.proofs.Same.{kept, same_from}
 use Rattle.indexing_scan.specs.Agree.{Call, agree}
@@ -48,7 +48,7 @@ module _ (P : Program) where
     pub keyed : open_at P b os ≡ []
     pub parts : List (Entry (List ℕ))
     pub right : Buckets P b os parts
-    pub complete : (q : Key) → is_open q ≡ false → any_of (λ e. same e.key q) parts ≡ false → any_of (λ k. same k q) (map (λ o. P.key_of o b) os) ≡ false
+    pub complete : (q : Key) → is_open q ≡ false → list_any (λ e. same e.key q) parts ≡ false → list_any (λ k. same k q) (map (λ o. P.key_of o b) os) ≡ false
     pub linked : Linked (Goes idx b) es parts
 
   -- line 0 has the clauses os, and its switches are right

@@ -8,13 +8,13 @@ use mathlib.Core.List.{List, [], ◌∷◌, Sublistᴰ, Memᴰ}
 use mathlib.Core.Option.{Option, none, some}
 use Prim.Native.Nat.{ℕ, zero, suc, ◌<◌}
 use native.Mathlib.Omega.{arith}
+use Rattle.std.specs.List.{filter}
 use lib.ListN.{length}
 use Rattle.indexing.proofs.Built.{built-closed, built-length}
 use Rattle.indexing.proofs.Grown.{Grown, grown-same, grown-trans, grown-closed, grown-length}
 use Rattle.indexing.proofs.Pointers.{Closed}
 use Rattle.indexing.specs.Build.{Program, open_at, build}
 use Rattle.indexing.specs.Lines.{Index}
-use Rattle.indexing.specs.Lists.{keep}
 use Rattle.indexing_scan.proofs.Again.{again}
 use Rattle.indexing_iter.proofs.CheckLaws.{Rising}
 use Rattle.indexing_scan.proofs.Rising.{args, path-rising}
@@ -47,11 +47,11 @@ module _ (P : Program) (c : ℕ) (os : List ℕ) (rising : Rising 1 os) (keyed :
     -- the answer is the fresh index's, at any capacity, so with unlimited space too
     pub fresh : (room : ℕ) → (walk_by P cap Q idx).found ≡ (walk_by P room Q (build P c os)).found
     -- every clause that agrees is selected, once and in source order
-    pub all : keep (agree P Q) (walk_by P cap Q idx).found.offsets ≡ keep (agree P Q) os
+    pub all : filter (agree P Q) (walk_by P cap Q idx).found.offsets ≡ filter (agree P Q) os
     pub order : Sublistᴰ (walk_by P cap Q idx).found.offsets os
     pub once : Rising 1 (walk_by P cap Q idx).found.offsets
     -- Fail only if none agrees
-    pub fails : (walk_by P cap Q idx).found.kind ≡ fail → keep (agree P Q) os ≡ []
+    pub fails : (walk_by P cap Q idx).found.kind ≡ fail → filter (agree P Q) os ≡ []
     -- no two tables looked at are for one argument
     pub path : Rising 1 (args (walk_by P cap Q idx).found.path)
     -- a call made again leaves the index
@@ -86,7 +86,7 @@ module _ (P : Program) (c : ℕ) (os : List ℕ) (rising : Rising 1 os) (keyed :
       all = rw found-is (built-selects P c os keyed Q).all;
       order = rw found-is (built-selects P c os keyed Q).ordered;
       once = rw found-is (rising-sublist (built-selects P c os keyed Q).ordered 1 rising);
-      fails = rw found-is (λ e. sym (built-selects P c os keyed Q).all ∙ ap (keep (agree P Q)) (fail-empty P Q P.arity 1 (build P c os) (line 0) e));
+      fails = rw found-is (λ e. sym (built-selects P c os keyed Q).all ∙ ap (filter (agree P Q)) (fail-empty P Q P.arity 1 (build P c os) (line 0) e));
       path = rw found-is (path-rising P Q P.arity 1 (build P c os) (line 0));
       again = same;
     }

@@ -1,13 +1,17 @@
 -- The answer selects every clause that agrees with the call, once and in source order.
 -- Assumes nothing.
 use mathlib.Core.Path.{◌≡◌, refl, sym, ◌∙◌, ap, subst}
-use mathlib.Core.Bool.{Bool, true, false, cond, not, ◌||◌}
+use mathlib.Core.Bool.{Bool, true, false, cond}
 use mathlib.Core.List.Sublistᴰ
 use mathlib.Core.List.{List, [], ◌∷◌, ◌++◌, map, Sublistᴰ}
 use mathlib.Core.Option.{Option, none, some}
 use Prim.Native.Nat.{ℕ, zero, suc, ◌+◌, ◌≤◌, ◌<◌}
 use native.Mathlib.Decide.{ℕ_discrete}
 use native.Mathlib.Omega.{arith}
+use Rattle.std.specs.List.{filter, list_any, AllByRecursion}
+use Rattle.std.proofs.lemmas.Bool.{and_parts, both_ways, eq-eqb, false_from_ne_true, or_parts}
+use Rattle.std.proofs.lemmas.List.Folds.{list_any-append}
+use Rattle.std.proofs.lemmas.Map.Views.{any-filter_same}
 use lib.Dec.{eqb}
 use Rattle.indexing_iter.specs.Keys.{group_of, is_open, same}
 use Rattle.indexing_iter.specs.declared.OptArgIndexKey.{OptArgIndexKey as Key}
@@ -15,12 +19,11 @@ use Rattle.indexing_iter.specs.declared.OptArgIndexKey.TheVariants.{List as List
 use Rattle.indexing.proofs.Expand.{single-is, no_switch}
 use Rattle.indexing_iter.proofs.SameKeys.{same-eq}
 use Rattle.indexing.proofs.Keys.{by-group}
-use Rattle.indexing.proofs.Lists.{add-empty, keep-sublist, any-keep, any_append}
-use Rattle.indexing.proofs.Tests.{eqb_same, bool-absurd, and-true, or-false, not-false, not-true}
+use Rattle.indexing.proofs.Lists.{keep-empty, keep-sublist, all_append, all_keep}
 use Rattle.indexing.specs.Build.{Program, open_at, keys_at, literals, lists, structures, bucket, lone, buckets, virtual}
 use Rattle.indexing.specs.Lines.{Ptr, Entry, Table, switch, on_demand, dead, Index}
-use Rattle.indexing.specs.Lists.{add, keep, any_of, distinct}
 use Rattle.indexing_iter.proofs.CheckLaws.{Rising}
+use Rattle.indexing_scan.proofs.KeptLaws.{any-distinct}
 use Rattle.indexing_scan.proofs.Rising.{rising-weaken}
 use Rattle.indexing_scan.specs.Agree.{Call, agree_at, agree_from, agree}
 use Rattle.indexing_scan.specs.ByArgument.{act, table_at, move_on, move, answer_from}
@@ -36,133 +39,114 @@ rising-sublist (Sublistᴰ.cons-cons {a = a} {b = b} {l₁ = xs} e s) n r =
 
 -- each entry leads to its key's bucket of the clauses os
 abbrev pub Buckets : Program → ℕ → List ℕ → List (Entry (List ℕ)) → Type 0
-Buckets P a os [] = Unit {0}
-Buckets P a os (e ∷ es) = (e.to ≡ bucket P a os e.key) × Buckets P a os es
+Buckets P a os es = AllByRecursion (λ e. e.to ≡ bucket P a os e.key) es
 
 -- what is chosen from the clauses os: nothing, if none agrees; or clauses, in order, with all that agree
 abbrev pub Right : (ℕ → Bool) → List ℕ → Option (Chosen (List ℕ)) → Type 0
-Right ag os none = keep ag os ≡ []
-Right ag os (some c) = (keep ag c.to ≡ keep ag os) × Sublistᴰ c.to os
+Right ag os none = filter ag os ≡ []
+Right ag os (some c) = (filter ag c.to ≡ filter ag os) × Sublistᴰ c.to os
 
 -- ---- the switch on a, of the clauses os, that is not stored
 
 module _ (P : Program) (a : ℕ) (os : List ℕ) where
-  buckets-append : (es fs : List (Entry (List ℕ))) → Buckets P a os es → Buckets P a os fs → Buckets P a os (es ++ fs)
-  buckets-append [] fs b c = c
-  buckets-append (e ∷ es) fs b c = (b.0, buckets-append es fs b.1 c)
-
   buckets-of : (ks : List Key) → Buckets P a os (buckets P a os ks)
   buckets-of [] = tt
   buckets-of (k ∷ ks) = (refl, buckets-of ks)
 
-  buckets-keep : (p : Entry (List ℕ) → Bool) (es : List (Entry (List ℕ))) → Buckets P a os es → Buckets P a os (keep p es)
-  buckets-keep p [] b = tt
-  buckets-keep p (e ∷ es) b = go (p e) (buckets-keep p es b.1)
-    where
-      go : (x : Bool) → Buckets P a os (keep p es) → Buckets P a os (add x e (keep p es))
-      go true c = (b.0, c)
-      go false c = c
-
   -- its entries lead to their keys' buckets
   pub virtual-buckets : Buckets P a os (virtual P a os)
   virtual-buckets =
-      buckets-append (buckets P a os (literals P a os)) (buckets P a os (lists P a os) ++ buckets P a os (structures P a os)) (buckets-of (literals P a os))
-      (buckets-append (buckets P a os (lists P a os)) (buckets P a os (structures P a os)) (buckets-of (lists P a os)) (buckets-of (structures P a os)))
+      let holds : Entry (List ℕ) → Type 0 = λ e. e.to ≡ bucket P a os e.key in
+      all_append holds (buckets P a os (literals P a os)) (buckets P a os (lists P a os) ++ buckets P a os (structures P a os)) (buckets-of (literals P a os))
+      (all_append holds (buckets P a os (lists P a os)) (buckets P a os (structures P a os)) (buckets-of (lists P a os)) (buckets-of (structures P a os)))
 
 -- ---- the keys that occur at a, and the call's key q
 
 module _ (P : Program) (a : ℕ) (q : Key) where
-  any-distinct : (ks : List Key) → any_of (λ k. same k q) (distinct same ks) ≡ any_of (λ k. same k q) ks
-  any-distinct [] = refl
-  any-distinct (k ∷ ks) = go (same k q) refl (any-distinct ks)
-    where
-      go : (b : Bool) → same k q ≡ b → any_of (λ k. same k q) (distinct same ks) ≡ any_of (λ k. same k q) ks
-          → b || any_of (λ k. same k q) (keep (λ l. not (same k l)) (distinct same ks)) ≡ b || any_of (λ k. same k q) ks
-      go true e ih = refl
-      go false e ih = any-keep (λ k. same k q) (λ l. not (same k l)) (distinct same ks) (λ l n. rw (same-eq k l (not-false (same k l) n)) at e) ∙ ih
-
-  grouped : (g : ℕ) → group_of q ≡ g → (ks : List Key) → any_of (λ k. same k q) (keep (λ k. eqb g (group_of k)) ks) ≡ any_of (λ k. same k q) ks
+  grouped : (g : ℕ) → group_of q ≡ g → (ks : List Key) → list_any (λ k. same k q) (filter (λ k. eqb g (group_of k)) ks) ≡ list_any (λ k. same k q) ks
   grouped g e ks =
-      any-keep (λ k. same k q) (λ k. eqb g (group_of k)) ks (λ k n. not-true (λ f. bool-absurd {b = eqb g (group_of k)} (rw (same-eq k q f, e) (eqb_same g)) n))
+      any-filter_same (λ k. same k q) (λ k. eqb g (group_of k)) true (λ k f. rw (same-eq k q f, e) (eq-eqb g g refl)) ks
 
-  any-buckets : (os : List ℕ) (ks : List Key) → any_of (λ e. same e.key q) (buckets P a os ks) ≡ any_of (λ k. same k q) ks
+  any-buckets : (os : List ℕ) (ks : List Key) → list_any (λ e. same e.key q) (buckets P a os ks) ≡ list_any (λ k. same k q) ks
   any-buckets os [] = refl
   any-buckets os (k ∷ ks) = rw (any-buckets os ks)
 
-  any-virtual : (os : List ℕ) → any_of (λ e. same e.key q) (virtual P a os) ≡ any_of (λ k. same k q) (literals P a os ++ (lists P a os ++ structures P a os))
-  any-virtual os = simp (any_append, any-buckets)
+  any-virtual : (os : List ℕ)
+      → list_any (λ e. same e.key q) (virtual P a os) ≡ list_any (λ k. same k q) (literals P a os ++ (lists P a os ++ structures P a os))
+  any-virtual os = simp (list_any-append, any-buckets)
 
-  occurs : is_open q ≡ false → (os : List ℕ) → any_of (λ k. same k q) (literals P a os ++ (lists P a os ++ structures P a os)) ≡ false
-      → any_of (λ k. same k q) (keys_at P a os) ≡ false
+  occurs : is_open q ≡ false → (os : List ℕ) → list_any (λ k. same k q) (literals P a os ++ (lists P a os ++ structures P a os)) ≡ false
+      → list_any (λ k. same k q) (keys_at P a os) ≡ false
   occurs bound os e =
       let has : Key → Bool = λ k. same k q in
-      let x = or-false (any_of has (literals P a os)) (any_of has (lists P a os ++ structures P a os))
-      (sym (any_append has (literals P a os) (lists P a os ++ structures P a os)) ∙ e) in
-      let y = or-false (any_of has (lists P a os)) (any_of has (structures P a os)) (sym (any_append has (lists P a os) (structures P a os)) ∙ x.1) in
-      by-group q bound (any_of has (keys_at P a os) ≡ false)
+      let x = or_parts (list_any has (literals P a os)) (list_any has (lists P a os ++ structures P a os))
+      (sym (list_any-append has (literals P a os) (lists P a os ++ structures P a os)) ∙ e) in
+      let y = or_parts (list_any has (lists P a os)) (list_any has (structures P a os)) (sym (list_any-append has (lists P a os) (structures P a os)) ∙ x.1) in
+      by-group q bound (list_any has (keys_at P a os) ≡ false)
       (λ g. sym (grouped 1 g (keys_at P a os)) ∙ x.0)
       (λ g. go P.dynamic g y.0)
       (λ g. sym (grouped 3 g (keys_at P a os)) ∙ y.1)
     where
-      go : (d : Bool) → q ≡ ListKey → any_of (λ k. same k q) (cond d (ListKey ∷ []) (keep (λ k. eqb 2 (group_of k)) (keys_at P a os))) ≡ false
-          → any_of (λ k. same k q) (keys_at P a os) ≡ false
-      go true g f = bool-absurd {b = same ListKey q} (rw g) (or-false (same ListKey q) false f).0
+      go : (d : Bool) → q ≡ ListKey → list_any (λ k. same k q) (cond d (ListKey ∷ []) (filter (λ k. eqb 2 (group_of k)) (keys_at P a os))) ≡ false
+          → list_any (λ k. same k q) (keys_at P a os) ≡ false
+      go true g f = absurd (both_ways (same ListKey q) (or_parts (same ListKey q) false f).0 (rw g))
       go false g f = sym (grouped 2 (ap group_of g) (keys_at P a os)) ∙ f
 
   -- a bound key that no entry has is no clause's key
-  pub virtual-complete : is_open q ≡ false → (os : List ℕ) → any_of (λ e. same e.key q) (virtual P a os) ≡ false
-      → any_of (λ k. same k q) (map (λ o. P.key_of o a) os) ≡ false
-  virtual-complete bound os f = sym (any-distinct (map (λ o. P.key_of o a) os)) ∙ occurs bound os (sym (any-virtual os) ∙ f)
+  pub virtual-complete : is_open q ≡ false → (os : List ℕ) → list_any (λ e. same e.key q) (virtual P a os) ≡ false
+      → list_any (λ k. same k q) (map (λ o. P.key_of o a) os) ≡ false
+  virtual-complete bound os f = sym (any-distinct q (map (λ o. P.key_of o a) os)) ∙ occurs bound os (sym (any-virtual os) ∙ f)
 
 -- ---- one switch: the clauses os, all with a key at a, the call's key q
 
 module _ (P : Program) (a : ℕ) (q : Key) (bound : is_open q ≡ false) (ag : ℕ → Bool) (agrees : (o : ℕ) → ag o ≡ true → agree_at q (P.key_of o a) ≡ true) where
   keyed : (o : ℕ) (os : List ℕ) → open_at P a (o ∷ os) ≡ [] → (is_open (P.key_of o a) ≡ false) × (open_at P a os ≡ [])
-  keyed o os e = add-empty (is_open (P.key_of o a)) o (open_at P a os) e
+  keyed o os e = keep-empty (λ o. is_open (P.key_of o a)) o os e
 
   -- a clause with another key does not agree
   differs : (o : ℕ) → is_open (P.key_of o a) ≡ false → same (P.key_of o a) q ≡ false → ag o ≡ false
-  differs o h k = not-true (λ e. bool-absurd (agrees o e) (rw (bound, h, k)))
+  differs o h k = false_from_ne_true _ (λ e. both_ways _ (rw (bound, h, k)) (agrees o e))
 
-  bucket-same : (os : List ℕ) (k : Key) → open_at P a os ≡ [] → same k q ≡ true → keep ag (bucket P a os k) ≡ keep ag os
+  bucket-same : (os : List ℕ) (k : Key) → open_at P a os ≡ [] → same k q ≡ true → filter ag (bucket P a os k) ≡ filter ag os
   bucket-same [] k e f = refl
   bucket-same (o ∷ os) k e f = go (same (P.key_of o a) k) refl (bucket-same os k (keyed o os e).1 f)
     where
-      go : (b : Bool) → same (P.key_of o a) k ≡ b → keep ag (bucket P a os k) ≡ keep ag os → keep ag (add b o (bucket P a os k)) ≡ add (ag o) o (keep ag os)
+      go : (b : Bool) → same (P.key_of o a) k ≡ b → filter ag (bucket P a os k) ≡ filter ag os
+          → filter ag (cond b (o ∷ bucket P a os k) (bucket P a os k)) ≡ cond (ag o) (o ∷ filter ag os) (filter ag os)
       go true x ih = rw ih
       go false x ih = rw (differs o (keyed o os e).0 (rw (sym (same-eq k q f)) x)) ih
 
-  bucket-other : (os : List ℕ) (k : Key) → open_at P a os ≡ [] → same k q ≡ false → keep ag (bucket P a os k) ≡ []
+  bucket-other : (os : List ℕ) (k : Key) → open_at P a os ≡ [] → same k q ≡ false → filter ag (bucket P a os k) ≡ []
   bucket-other [] k e f = refl
   bucket-other (o ∷ os) k e f = go (same (P.key_of o a) k) refl (bucket-other os k (keyed o os e).1 f)
     where
-      go : (b : Bool) → same (P.key_of o a) k ≡ b → keep ag (bucket P a os k) ≡ [] → keep ag (add b o (bucket P a os k)) ≡ []
+      go : (b : Bool) → same (P.key_of o a) k ≡ b → filter ag (bucket P a os k) ≡ [] → filter ag (cond b (o ∷ bucket P a os k) (bucket P a os k)) ≡ []
       go true x ih = rw (differs o (keyed o os e).0 (rw (same-eq (P.key_of o a) k x) f)) ih
       go false x ih = ih
 
   -- no clause has the call's key
-  absent : (os : List ℕ) → open_at P a os ≡ [] → any_of (λ k. same k q) (map (λ o. P.key_of o a) os) ≡ false → keep ag os ≡ []
+  absent : (os : List ℕ) → open_at P a os ≡ [] → list_any (λ k. same k q) (map (λ o. P.key_of o a) os) ≡ false → filter ag os ≡ []
   absent [] e f = refl
   absent (o ∷ os) e f =
-      let g = or-false (same (P.key_of o a) q) (any_of (λ k. same k q) (map (λ o. P.key_of o a) os)) f in
+      let g = or_parts (same (P.key_of o a) q) (list_any (λ k. same k q) (map (λ o. P.key_of o a) os)) f in
       rw (differs o (keyed o os e).0 g.0) (absent os (keyed o os e).1 g.1)
 
   module _ (os : List ℕ) (keys : open_at P a os ≡ []) where
-    follows : (h : ℕ) (e : Entry (List ℕ)) → e.to ≡ bucket P a os e.key → keep ag (bucket P a os e.key) ≡ keep ag os
+    follows : (h : ℕ) (e : Entry (List ℕ)) → e.to ≡ bucket P a os e.key → filter ag (bucket P a os e.key) ≡ filter ag os
         → Right ag os (some (record { how = h; to = e.to }))
     follows h e f g = rw f (g, keep-sublist (λ o. same (P.key_of o a) e.key) os)
 
-    equal-right : (es : List (Entry (List ℕ))) → Buckets P a os es → (any_of (λ e. same e.key q) es ≡ false → keep ag os ≡ [])
+    equal-right : (es : List (Entry (List ℕ))) → Buckets P a os es → (list_any (λ e. same e.key q) es ≡ false → filter ag os ≡ [])
         → Right ag os (marked 5 (equal q es))
     equal-right [] b f = f refl
     equal-right (e ∷ es) b f = go (same e.key q) refl (equal-right es b.1)
       where
-        go : (x : Bool) → same e.key q ≡ x → ((any_of (λ e. same e.key q) es ≡ false → keep ag os ≡ []) → Right ag os (marked 5 (equal q es)))
+        go : (x : Bool) → same e.key q ≡ x → ((list_any (λ e. same e.key q) es ≡ false → filter ag os ≡ []) → Right ag os (marked 5 (equal q es)))
             → Right ag os (marked 5 (cond x (some e.to) (equal q es)))
         go true y ih = follows 5 e b.0 (bucket-same os e.key keys y)
         go false y ih = ih (λ z. f (rw (y, z)))
 
-    pick-right : (es : List (Entry (List ℕ))) → Buckets P a os es → (any_of (λ e. same e.key q) es ≡ false → keep ag os ≡ []) → Right ag os (pick P q es)
+    pick-right : (es : List (Entry (List ℕ))) → Buckets P a os es → (list_any (λ e. same e.key q) es ≡ false → filter ag os ≡ []) → Right ag os (pick P q es)
     pick-right [] b f = f refl
     pick-right (e ∷ []) b f = go (same e.key q) refl
       where
@@ -173,17 +157,18 @@ module _ (P : Program) (a : ℕ) (q : Key) (bound : is_open q ≡ false) (ag : �
 
     -- a switch whose entries lead to their keys' buckets and miss no key that occurs
     pub chosen-right : (es : List (Entry (List ℕ))) → Buckets P a os es
-        → (any_of (λ e. same e.key q) es ≡ false → any_of (λ k. same k q) (map (λ o. P.key_of o a) os) ≡ false) → Right ag os (choose P q es)
-    chosen-right es b f = pick-right (keep (λ e. eqb (group_of q) (group_of e.key)) es) (buckets-keep P a os (λ e. eqb (group_of q) (group_of e.key)) es b)
-        (λ g. absent os keys (f (sym (any-keep (λ e. same e.key q) (λ e. eqb (group_of q) (group_of e.key)) es
-        (λ e n. not-true (λ h. bool-absurd {b = eqb (group_of q) (group_of e.key)} (rw (same-eq e.key q h) (eqb_same (group_of q))) n))) ∙ g)))
+        → (list_any (λ e. same e.key q) es ≡ false → list_any (λ k. same k q) (map (λ o. P.key_of o a) os) ≡ false) → Right ag os (choose P q es)
+    chosen-right es b f = pick-right (filter (λ e. eqb (group_of q) (group_of e.key)) es)
+        (all_keep (λ e. e.to ≡ bucket P a os e.key) (λ e. eqb (group_of q) (group_of e.key)) es b)
+        (λ g. absent os keys (f (sym (any-filter_same (λ (e : Entry (List ℕ)). same e.key q) (λ e. eqb (group_of q) (group_of e.key)) true
+        (λ e h. rw (same-eq e.key q h) (eq-eqb (group_of q) _ refl)) es) ∙ g)))
 
     pub choose-right : Right ag os (choose P q (virtual P a os))
     choose-right = chosen-right (virtual P a os) (virtual-buckets P a os) (virtual-complete P a q bound os)
 
 -- the selection from the clauses os: all that agree, and in order
 pub record Selects (ag : ℕ → Bool) (os sel : List ℕ) : Type 0 where
-  pub all : keep ag sel ≡ keep ag os
+  pub all : filter ag sel ≡ filter ag os
   pub ordered : Sublistᴰ sel os
 
 pub selects-trans : {ag : ℕ → Bool} {os bs sel : List ℕ} → Selects ag os bs → Selects ag bs sel → Selects ag os sel
@@ -195,7 +180,7 @@ selects-trans s t = record { all = t.all ∙ s.all; ordered = Sublistᴰ.trans t
 pub data Picks (ag : ℕ → Bool) (os : List ℕ) : Move → Type 0 where
   picks-skip : Picks ag os skip
   picks-pass : {h : ℕ} → Picks ag os (pass h)
-  picks-stop : keep ag os ≡ [] → Picks ag os stop
+  picks-stop : filter ag os ≡ [] → Picks ag os stop
   picks-out : {h o : ℕ} → Selects ag os (o ∷ []) → Picks ag os (out h o)
   picks-goto : {h : ℕ} {bs : List ℕ} → Selects ag os bs → Picks ag os (goto h (unstored bs))
 
@@ -252,7 +237,8 @@ module _ (P : Program) (Q : Call) (ag : ℕ → Bool) (agrees : (b o : ℕ) → 
 -- agreement at all arguments is agreement at each
 agree-each : (P : Program) (Q : Call) (n a o b : ℕ) → a ≤ b → b < a + n → agree_from P Q n a o ≡ true → agree_at (Q b) (P.key_of o b) ≡ true
 agree-each P Q zero a o b h k e = absurd (omega arith)
-agree-each P Q (suc n) a o b h k e = go (ℕ_discrete a b) (and-true (agree_at (Q a) (P.key_of o a)) (agree_from P Q n (suc a) o) e) (agree-each P Q n (suc a) o b)
+agree-each P Q (suc n) a o b h k e =
+    go (ℕ_discrete a b) (and_parts (agree_at (Q a) (P.key_of o a)) (agree_from P Q n (suc a) o) e) (agree-each P Q n (suc a) o b)
   where
     go : Dec (a ≡ b) → (agree_at (Q a) (P.key_of o a) ≡ true) × (agree_from P Q n (suc a) o ≡ true)
         → (suc a ≤ b → b < suc a + n → agree_from P Q n (suc a) o ≡ true → agree_at (Q b) (P.key_of o b) ≡ true) → agree_at (Q b) (P.key_of o b) ≡ true

@@ -3,10 +3,10 @@
 -- Assumes nothing.
 use Rattle.std.specs.Prelude.{ℕ, suc, ◌≤◌, ◌<◌, ◌≡◌, true, cond, eqb, length, take, get_or}
 use mathlib.Core.List.{List, [], ◌∷◌, Sublistᴰ, Memᴰ}
+use Rattle.std.specs.List.{filter}
 use Rattle.records.specs.Records.{records_of}
 use Rattle.indexing_iter.specs.declared.Settings.{Settings}
 use Rattle.indexing_iter.specs.Clauses.{offsets_of}
-use Rattle.indexing.specs.Lists.{keep}
 use Rattle.indexing.specs.Lines.{size}
 use Rattle.indexing.specs.Build.{Program, program_of}
 use Rattle.indexing.specs.Builder.{build_call, index_of, stored}
@@ -66,11 +66,11 @@ module _ (cls : ℕ → ℕ) (code starts : List ℕ) (S : Settings) (c : ℕ) w
   -- what holds of an accepted walk
   pub record Accepted (index : List ℕ) (count : ℕ) (q : Asked) (w : Walked) : Type 0 where
     -- it selects every clause that agrees with its call, once, in source order
-    pub all : keep (agree program (call_of q.call)) (selected w) ≡ keep (agree program (call_of q.call)) (offsets_of starts)
+    pub all : filter (agree program (call_of q.call)) (selected w) ≡ filter (agree program (call_of q.call)) (offsets_of starts)
     pub in_order : Sublistᴰ (selected w) (offsets_of starts)
     pub once : Rises 1 (selected w)
     -- Fail only if none agrees
-    pub fails : w.case ≡ 1 → keep (agree program (call_of q.call)) (offsets_of starts) ≡ []
+    pub fails : w.case ≡ 1 → filter (agree program (call_of q.call)) (offsets_of starts) ≡ []
     -- the answer is the fresh index's with unlimited space
     pub fresh : Unlimited q w
     -- line number, mark, new count and the index left are those of document 01's walk on the index it got

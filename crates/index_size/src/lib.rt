@@ -1,29 +1,25 @@
 // The size of the index that the builder would write: how many records it takes, whatever the room.
-// Code, starts and settings stand one by one where nothing is checked yet: a Program is what they are afterwards.
+// Code, starts, settings and c stand one by one where nothing is checked yet: a Build is what they are afterwards.
 #![tactic(auto)]
 
 ghost use Rattle.std.specs.Prelude.{◌≡◌};
-ghost use Rattle.indexing_iter.specs.Refusals.{passed};
 ghost use Rattle.indexing_iter.specs.Classes.{class_of};
-ghost use Rattle.indexing_iter.specs.Checks.{check_build};
 ghost use Rattle.indexing.specs.Lines.{size};
 ghost use Rattle.indexing.specs.Builder.{index_of, size_call};
 ghost use Rattle.index_size.specs.Answer.{sized_of};
 
 use index_writer::first_line::FirstLine;
 use index_writer::rooms;
-use indexing_iter::program::Program;
+use indexing_iter::Settings;
+use indexing_iter::program::Build;
 use indexing_iter::refusal::Refusal;
-use indexing_iter::{Settings, checks};
 
 // The size of the index of checked code.
-// It asks check_build .. ≡ passed, as FirstLine::fill does: the field of Program and number 8 say it together.
-fn size_checked(program: &Program, c: u32) -> usize
-    requires { check_build class_of program.now.settings.arity c program.now.code.now program.now.starts.now ≡ passed }
-    ensures { result ≡ size (index_of class_of program.now.code.now program.now.starts.now program.now.settings c) }
+fn size_checked(build: &Build) -> usize
+    ensures { result ≡ size (index_of class_of build.now.program.code.now build.now.program.starts.now build.now.program.settings build.now.c) }
 {
     let mut first = FirstLine::new();
-    let (whole, columns) = first.fill(program, c);
+    let (whole, columns) = first.fill(build);
     rooms::index_room(&whole.tables.opens, &columns.lines.rooms).count
 }
 
@@ -31,12 +27,6 @@ fn size_checked(program: &Program, c: u32) -> usize
 pub fn index_size(code: &[u8], starts: &[u32], settings: Settings, c: u64) -> Result<usize, Refusal>
     ensures { sized_of result ≡ size_call class_of code.now starts.now settings c }
 {
-    checks::check_build(code, starts, settings.arity, c)?;
-    let program = Program {
-        code,
-        starts,
-        settings,
-    };
-    // check_build said that c is at most 32: it is a u32.
-    Ok(size_checked(&program, c as u32))
+    let build = Build::check(code, starts, settings, c)?;
+    Ok(size_checked(&build))
 }

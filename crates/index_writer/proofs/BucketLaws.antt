@@ -6,20 +6,22 @@ use mathlib.Core.Bool.{Bool, true, false, cond}
 use mathlib.Core.List.{List, [], ◌∷◌, ◌++◌}
 use lib.ListN.{length, get_or, length-append}
 use Rattle.records.specs.Records.{rec_of}
-use Rattle.indexing.specs.Upto.{bit, count_to}
+use Rattle.std.specs.Int.{from_bool}
+use Rattle.indexing.specs.Upto.{count_to}
 use Rattle.indexing.specs.Columns.{size_of, sizes_to, needs_line, opens_bucket, opens_line, lines_to, empty_list, list_lines}
 use Rattle.indexing.specs.Columns.{pointer_to, entry_of, entry_at, entries, list_entries, switch_recs}
-use Rattle.index_writer.proofs.Upto.{count-step, count-le, list_count_lem, length-column, column-at}
+use Rattle.indexing.proofs.BridgeLists.{length-each, get_or-each, length_some}
+use Rattle.index_writer.proofs.Upto.{count-step, count-le}
 
 -- the column of the sizes
 module _ (leaders sizes : List ℕ) (e : sizes ≡ sizes_to leaders (length leaders)) where
   pub sizes-length : length sizes ≡ length leaders
   unfolding sizes_to
-  sizes-length = ap length e ∙ length-column (size_of leaders) (length leaders)
+  sizes-length = ap length e ∙ length-each (size_of leaders) (length leaders)
 
   pub size-at : (i : ℕ) → i < length leaders → get_or sizes i 0 ≡ size_of leaders i
   unfolding sizes_to
-  size-at i h = ap (λ (l : List ℕ). get_or l i 0) e ∙ column-at (size_of leaders) (length leaders) i 0 h
+  size-at i h = ap (λ (l : List ℕ). get_or l i 0) e ∙ get_or-each (size_of leaders) (length leaders) i 0 h
 
 -- the lines of a group
 module _ (leaders heads : List ℕ) (dynamic : Bool) (g : ℕ) where
@@ -30,9 +32,9 @@ module _ (leaders heads : List ℕ) (dynamic : Bool) (g : ℕ) where
   pub lines_start : (d : ℕ) → d ≡ d + lines_to leaders heads dynamic g 0
   lines_start d = omega (arith, lines_none)
 
-  pub lines_step : (i : ℕ) → lines_to leaders heads dynamic g (i + 1) ≡ lines_to leaders heads dynamic g i + bit (opens_line leaders heads dynamic g i)
+  pub lines_step : (i : ℕ) → lines_to leaders heads dynamic g (i + 1) ≡ lines_to leaders heads dynamic g i + from_bool (opens_line leaders heads dynamic g i)
   unfolding lines_to
-  lines_step i = count-step (opens_line leaders heads dynamic g) i
+  lines_step i = count-step (opens_line leaders heads dynamic g) i refl
 
   pub lines-le : (n : ℕ) → lines_to leaders heads dynamic g n ≤ n
   unfolding lines_to
@@ -49,23 +51,11 @@ module _ (leaders heads bits offs : List ℕ) (dynamic : Bool) (g : ℕ) where
   unfolding entry_at
   entry-no d i e = rw e
 
-  length-entry_at : (d i : ℕ) → length (entry_at leaders heads bits offs dynamic g d i) ≡ bit (opens_bucket leaders heads g i)
-  unfolding entry_at
-  length-entry_at d i = go (opens_bucket leaders heads g i)
-    where
-      go : (b : Bool) → length (cond b (entry_of leaders heads bits offs dynamic d i ∷ []) []) ≡ bit b
-      go true = refl
-      go false = refl
-
   -- how many entries there are does not hang on the distances of their lines
   pub length-entries : (d : ℕ) → length (entries leaders heads bits offs dynamic g d) ≡ count_to (opens_bucket leaders heads g) (length leaders)
-  unfolding entries
+  unfolding entries entry_at
   length-entries d =
-      list_count_lem
-      (λ i. entry_at leaders heads bits offs dynamic g (d + lines_to leaders heads dynamic g i) i)
-      (opens_bucket leaders heads g)
-      (λ i. length-entry_at (d + lines_to leaders heads dynamic g i) i)
-      (length leaders)
+      length_some (opens_bucket leaders heads g) (λ i. entry_of leaders heads bits offs dynamic (d + lines_to leaders heads dynamic g i) i) (length leaders)
 
 -- how many entries the list group has
 abbrev pub list_count : List ℕ → List ℕ → Bool → ℕ
@@ -117,19 +107,6 @@ module _ (leaders heads bits offs : List ℕ) (dynamic : Bool) where
       ++ (list_entries leaders heads bits offs dynamic d ++ entries leaders heads bits offs dynamic 3 structures))
   unfolding switch_recs
   switch-parts arg d structures literals e f = rw (f, e) refl
-
--- distances of lines stay small
-pub distance-first : {n by : ℕ} → n ≤ 1024 → by ≤ 65535 → 1 + by + n < 2147483648
-distance-first h k = omega arith
-
-pub distance_next : {n by x : ℕ} → n ≤ 1024 → by ≤ 65535 → x ≤ n + 1 → 1 + x + by + n < 2147483648
-distance_next h k u = omega arith
-
-pub distance-small : {n by x y : ℕ} → n ≤ 1024 → by ≤ 65535 → x ≤ n + 1 → y ≤ n → 1 + x + y + by + n < 2147483648
-distance-small h k u v = omega arith
-
-pub distance-at : {n i k x : ℕ} (d by : ℕ) → k ≡ d + x → x ≤ i → i < n → d + by + n < 2147483648 → k + by < 2147483648
-distance-at d by e h l m = omega arith
 
 -- the next line's distance, grown
 pub distance-grown : {k : ℕ} (d by x : ℕ) → k ≡ d + x → k + by ≡ d + by + x

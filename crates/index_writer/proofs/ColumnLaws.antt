@@ -8,10 +8,11 @@ use native.Mathlib.Decide.{ℕ_discrete}
 use native.Mathlib.Omega.{arith}
 use mathlib.Core.Bool.{Bool, true, false, cond}
 use mathlib.Core.List.{List, [], ◌∷◌, ◌++◌, map, append_assoc}
+use Rattle.std.proofs.lemmas.Bool.{eq-eqb, ltb-true, ne_eqb}
+use Rattle.std.proofs.Math.Bool.{or-true}
 use lib.Dec.{eqb, ltb}
 use lib.ListN.{length, get_or, take, drop, set, replicate, length-set, length-map, length-replicate, length-append, length-drop, get_or-replicate}
 use lib.Seq.{slice, ext_get_or, get_or-set_same, get_or-set_other, get_or-take, get_or-drop, take_all, take_at, length-take-le, length-slice}
-use borrow.Author.Tests.{ne_eqb, ltb-true}
 use Rattle.std.specs.Prelude.{Some}
 use Rattle.std.specs.List.{find, range_with_len}
 use Rattle.std.specs.Option.{unwrap_or}
@@ -31,8 +32,8 @@ use Rattle.indexing_iter.proofs.SameKeys.{KeyInRange}
 use Rattle.indexing_iter.proofs.KeyLaws.{key-of-range, collected-at, CodeOk, code_ok}
 use Rattle.indexing.proofs.BridgeLists.{list-cong, length-each, get_or-each}
 use Rattle.indexing.proofs.BridgeColumns.{leader-first}
-use Rattle.indexing.proofs.Tests.{eqb_same, eqb-other, or-true}
-use Rattle.indexing.specs.Upto.{bit, count_to, list_to}
+use Rattle.std.specs.Int.{from_bool}
+use Rattle.indexing.specs.Upto.{count_to, list_to}
 use Rattle.indexing.specs.Columns.{same_at, first_same, leader_of, leaders_to, member, size_of, sizes_to, open_row, opens_to}
 use Rattle.index_writer.specs.Choices.{NumbersBelow, AllKnown, open_numbers}
 use Rattle.index_writer.proofs.Upto.{count-le}
@@ -132,11 +133,11 @@ module _ (leaders : List ℕ) (n : ℕ) where
       l : List ℕ
       l = sizes_by j
 
-      go : (i : ℕ) → Dec (i ≡ m) → i < n → get_or (set l m (get_or l m 0 + 1)) i 0 ≡ count_to (member leaders i) j + bit (eqb m i)
+      go : (i : ℕ) → Dec (i ≡ m) → i < n → get_or (set l m (get_or l m 0 + 1)) i 0 ≡ count_to (member leaders i) j + from_bool (eqb m i)
       go i (yes e) q =
-          rw (e, get_or-set_same l m (get_or l m 0 + 1) 0 (omega (arith, length-sizes j)), eqb_same m, get_or-sizes j m h)
+          rw (e, get_or-set_same l m (get_or l m 0 + 1) 0 (omega (arith, length-sizes j)), eq-eqb m m refl, get_or-sizes j m h)
       go i (no e) q =
-          let w : eqb m i ≡ false = eqb-other (λ x. e (sym x)) in
+          let w : eqb m i ≡ false = ne_eqb _ _ (λ x. e (sym x)) in
           rw (get_or-set_other l m i (get_or l m 0 + 1) 0 e, w, get_or-sizes j i q) (omega arith)
 
 pub sizes-all : (leaders : List ℕ) (n j : ℕ) → j ≡ length leaders → sizes_by leaders n j ≡ sizes_to leaders n
@@ -147,11 +148,11 @@ sizes-all leaders n j e = rw e refl
 
 pub length-open : (heads : List ℕ) (arity : ℕ) → length (open_numbers heads arity) ≡ 32
 unfolding open_numbers
-length-open heads arity = length-each (λ b. bit (cond (ltb b arity) (eqb (get_or heads b 0) 0) false)) 32
+length-open heads arity = length-each (λ b. from_bool (cond (ltb b arity) (eqb (get_or heads b 0) 0) false)) 32
 
-pub get_or-open : (heads : List ℕ) (arity b : ℕ) → b < 32 → get_or (open_numbers heads arity) b 0 ≡ bit (cond (ltb b arity) (eqb (get_or heads b 0) 0) false)
+pub get_or-open : (heads : List ℕ) (arity b : ℕ) → b < 32 → get_or (open_numbers heads arity) b 0 ≡ from_bool (cond (ltb b arity) (eqb (get_or heads b 0) 0) false)
 unfolding open_numbers
-get_or-open heads arity b h = get_or-each (λ b. bit (cond (ltb b arity) (eqb (get_or heads b 0) 0) false)) 32 b 0 h
+get_or-open heads arity b h = get_or-each (λ b. from_bool (cond (ltb b arity) (eqb (get_or heads b 0) 0) false)) 32 b 0 h
 
 -- a key in range has head 0 if it is none
 open-head : (k : Key) → KeyInRange k → eqb (head_of k) 0 ≡ is_open k
@@ -165,8 +166,8 @@ pub open_row_lem : (K : ℕ → ℕ → Key) (arity o : ℕ) (heads : List ℕ) 
     → ((b : ℕ) → KeyInRange (K o b)) → open_numbers heads arity ≡ open_row K arity o
 unfolding open_numbers open_row
 open_row_lem K arity o heads h r =
-    list-cong (λ b. bit (cond (ltb b arity) (eqb (get_or heads b 0) 0) false) ∷ []) (λ b. bit (cond (ltb b arity) (is_open (K o (b + 1))) false) ∷ []) 32
-    (λ b k. ap (λ (t : Bool). bit t ∷ []) (go b (ltb b arity) refl))
+    list-cong (λ b. from_bool (cond (ltb b arity) (eqb (get_or heads b 0) 0) false) ∷ []) (λ b. from_bool (cond (ltb b arity) (is_open (K o (b + 1))) false) ∷ []) 32
+    (λ b k. ap (λ (t : Bool). from_bool t ∷ []) (go b (ltb b arity) refl))
   where
     go : (b : ℕ) (t : Bool) → ltb b arity ≡ t → cond t (eqb (get_or heads b 0) 0) false ≡ cond t (is_open (K o (b + 1))) false
     go b true e = ap (λ (x : ℕ). eqb x 0) (h b (ltb-true b arity e)) ∙ open-head (K o (b + 1)) (r (b + 1))
@@ -174,7 +175,7 @@ open_row_lem K arity o heads h r =
 
 length-row : (K : ℕ → ℕ → Key) (arity o : ℕ) → length (open_row K arity o) ≡ 32
 unfolding open_row
-length-row K arity o = length-each (λ b. bit (cond (ltb b arity) (is_open (K o (b + 1))) false)) 32
+length-row K arity o = length-each (λ b. from_bool (cond (ltb b arity) (is_open (K o (b + 1))) false)) 32
 
 -- a list that begins with what f makes of a clause's keys has that of the key at argument a
 pub row_at : (f : Key → ℕ) (cls : ℕ → ℕ) (rs : List Rec) (starts : List ℕ) (o arity : ℕ) (l rest : List ℕ) (a : ℕ)
@@ -249,7 +250,7 @@ get_or-offsets starts i h = get_or-map-in suc starts i 0 0 h ∙ sym (add-one (g
 pub offsets-known : (starts : List ℕ) → AllKnown starts (offsets_of starts)
 unfolding known
 offsets-known [] i h = absurd (not-suc-le-zero h)
-offsets-known (s ∷ ss) zero h = rw (eqb_same (suc s)) refl
+offsets-known (s ∷ ss) zero h = rw (eq-eqb (suc s) _ refl) refl
 offsets-known (s ∷ ss) (suc i) h = rw (offsets-known ss i (le_of_suc-le-suc h)) (or-true (eqb (suc s) (get_or (offsets_of ss) i 0)))
 
 rising-below : (n : ℕ) (starts : List ℕ) → rising_below n starts ≡ true → NumbersBelow n starts

@@ -11,7 +11,7 @@ use Rattle.records.proofs.Grown.{Grown, grow-start, grow-run, grow-end, grow-as}
 use Rattle.indexing.specs.Upto.{list_to}
 use Rattle.index_writer.specs.Writing.{Puts}
 use Rattle.index_writer.proofs.Left.{puts-as}
-use Rattle.index_writer.proofs.Upto.{list-none, list-more, list-le}
+use Rattle.index_writer.proofs.Upto.{list-more, list-le}
 
 pub record Gathered (f : ℕ → List Rec) (n : ℕ) (b₀ : List ℕ) (p i q : ℕ) (b : List ℕ) : Type 0 where
   pub within : i ≤ n
@@ -19,7 +19,8 @@ pub record Gathered (f : ℕ → List Rec) (n : ℕ) (b₀ : List ℕ) (p i q : 
   pub grown : Grown b₀ p (list_to f i) q b
 
 pub gather-start : (f : ℕ → List Rec) (n : ℕ) (b : List ℕ) (p : ℕ) → p + length (list_to f n) ≤ length (records_of b) → Gathered f n b p 0 p b
-gather-start f n b p h = record { within = omega arith; whole = h; grown = grow-as (sym (list-none f)) (grow-start b p (omega arith)) }
+unfolding list_to
+gather-start f n b p h = record { within = omega arith; whole = h; grown = grow-start b p (omega arith) }
 
 -- there is room for what turn i writes
 pub gather-room : {f : ℕ → List Rec} {n : ℕ} {b₀ : List ℕ} {p i q : ℕ} {b : List ℕ} (t : List Rec) → Gathered f n b₀ p i q b → i < n → t ≡ f i

@@ -1,6 +1,6 @@
 -- Laws of a new line's records: its tables, its offsets, and how many records they are. Assumes nothing.
 use mathlib.Core.Path.{◌≡◌, refl, ap, ◌∙◌}
-use Prim.Native.Nat.{ℕ, ◌+◌, ◌-◌, ◌≤◌}
+use Prim.Native.Nat.{ℕ, ◌+◌, ◌-◌}
 use native.Mathlib.Omega.{arith}
 use mathlib.Core.Bool.{Bool, true, false, cond}
 use mathlib.Core.List.{List, [], ◌∷◌, ◌++◌}
@@ -8,11 +8,12 @@ use lib.ListN.{length, get_or, length-append}
 use Rattle.records.specs.declared.Rec.{Rec}
 use Rattle.records.specs.Records.{rec_of}
 use Rattle.indexing_iter.specs.declared.Settings.{Settings}
-use Rattle.indexing.specs.Upto.{bit, count_to, any_to, list_to}
+use Rattle.indexing.specs.Upto.{count_to, any_to, list_to}
 use Rattle.indexing.specs.Lines.{mode_of}
 use Rattle.indexing.specs.Build.{masked_at}
 use Rattle.indexing.specs.Columns.{member, size_of, open_member, dead_clauses, table_at, tables_at, tag_at, choice_at, choices, opens_line, lines_to, empty_list, list_lines, line_of, line_at, group_lines, list_line, new_lines_recs, seed_recs}
-use Rattle.index_writer.proofs.Upto.{list_count_lem, list-more}
+use Rattle.indexing.proofs.BridgeLists.{length_some}
+use Rattle.index_writer.proofs.Upto.{list-more}
 
 -- a choice between a list and none
 module _ {ℓ} {A : Type ℓ} where
@@ -22,10 +23,6 @@ module _ {ℓ} {A : Type ℓ} where
   pub cond_no : (t : Bool) (x y : A) → t ≡ false → cond t x y ≡ y
   cond_no t x y e = rw e
 
-  pub length-one : (t : Bool) (x : A) → length (cond t (x ∷ []) []) ≡ bit t
-  length-one true x = refl
-  length-one false x = refl
-
 module _ (leaders opens : List ℕ) (i b : ℕ) where
   -- the offsets do not matter to the test
   pub open-as : (offs : List ℕ) (j : ℕ) → open_member leaders opens [] i b j ≡ open_member leaders opens offs i b j
@@ -34,9 +31,7 @@ module _ (leaders opens : List ℕ) (i b : ℕ) where
 
   pub length-dead : (offs : List ℕ) → length (dead_clauses leaders opens offs i b) ≡ count_to (open_member leaders opens [] i b) (length leaders)
   unfolding dead_clauses open_member
-  length-dead offs =
-      list_count_lem (λ j. cond (open_member leaders opens offs i b j) (rec_of 7 0 0 (get_or offs j 0) 0 ∷ []) []) (open_member leaders opens [] i b)
-      (λ j. length-one (open_member leaders opens offs i b j) (rec_of 7 0 0 (get_or offs j 0) 0)) (length leaders)
+  length-dead offs = length_some (open_member leaders opens [] i b) (λ j. rec_of 7 0 0 (get_or offs j 0) 0) (length leaders)
 
   module _ (offs : List ℕ) (mask : ℕ) (extensible : Bool) where
     abbrev table : List Rec
@@ -76,17 +71,15 @@ module _ (leaders offs tags : List ℕ) (dynamic default : Bool) (i : ℕ) where
   unfolding choice_at
   choice-no n k j e = rw e
 
-  length-choice : (n k j : ℕ) → length (choice_at leaders offs tags dynamic default n i k j) ≡ bit (member leaders i j)
-  unfolding choice_at
-  length-choice n k j = length-one (member leaders i j) (rec_of 6 (tag_at dynamic default (get_or tags j 0) n k) 0 (get_or offs j 0) 0)
-
   -- the offset of clause j, by the members before it
   abbrev pub choice_of : ℕ → List Rec
   choice_of j = choice_at leaders offs tags dynamic default (size_of leaders i) i (count_to (member leaders i) j) j
 
   -- as many offsets as members
   pub length-members : (j : ℕ) → length (list_to choice_of j) ≡ count_to (member leaders i) j
-  length-members j = list_count_lem choice_of (member leaders i) (λ j. length-choice (size_of leaders i) (count_to (member leaders i) j) j) j
+  unfolding choice_at
+  length-members j =
+      length_some (member leaders i) (λ j. rec_of 6 (tag_at dynamic default (get_or tags j 0) (size_of leaders i) (count_to (member leaders i) j)) 0 (get_or offs j 0) 0) j
 
   pub length-choices : length (choices leaders offs tags dynamic default i) ≡ size_of leaders i
   unfolding choices size_of
@@ -164,13 +157,3 @@ module _ (leaders heads opens offs tags : List ℕ) (S : Settings) (arg : ℕ) w
         length-append lists (group_of 3 structures ++ group_of 1 literals),
         length-append (group_of 3 structures) (group_of 1 literals),
       )
-
--- the numbers of new lines stay small
-pub number-first : {d : ℕ} → d ≤ 65536 → d ≤ 100000
-number-first k = omega arith
-
-pub number-next : {n d x : ℕ} → n ≤ 1024 → d ≤ 65536 → x ≤ n + 1 → d + x ≤ 100000
-number-next h k u = omega arith
-
-pub number-last : {n d x y : ℕ} → n ≤ 1024 → d ≤ 65536 → x ≤ n + 1 → y ≤ n → d + x + y ≤ 100000
-number-last h k u v = omega arith

@@ -3,7 +3,8 @@
 use Rattle.std.specs.Prelude.{ℕ, ◌<◌, ◌≡◌, true, false, cond, List, [], ◌∷◌, map, eqb, ltb, length, get_or}
 use Rattle.records.specs.declared.Rec.{Rec}
 use Rattle.indexing_iter.specs.Clauses.{known}
-use Rattle.indexing.specs.Upto.{bit, list_to}
+use Rattle.std.specs.Int.{from_bool}
+use Rattle.indexing.specs.Upto.{list_to}
 
 -- the tags of offset records
 unfoldable pub subs_of : List Rec → List ℕ
@@ -19,4 +20,4 @@ AllKnown starts offs = (i : ℕ) → i < length offs → known starts (get_or of
 
 -- 32 numbers by a clause's heads: 1 where an argument up to the arity has head 0
 unfoldable pub open_numbers : List ℕ → ℕ → List ℕ
-open_numbers heads arity = list_to (λ b. bit (cond (ltb b arity) (eqb (get_or heads b 0) 0) false) ∷ []) 32
+open_numbers heads arity = list_to (λ b. from_bool (cond (ltb b arity) (eqb (get_or heads b 0) 0) false) ∷ []) 32

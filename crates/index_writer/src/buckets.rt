@@ -8,7 +8,8 @@ ghost use Rattle.std.specs.Prelude.{◌≡◌, cond, List, ℕ, ◌+◌, ◌*◌
 ghost use Rattle.records.specs.Records.{records_of};
 ghost use Rattle.records.specs.Pointer.{internal_word};
 ghost use Rattle.indexing_iter.specs.Groups.{group_number};
-ghost use Rattle.indexing.specs.Upto.{bit, count_to, any_to};
+ghost use Rattle.std.specs.Int.{from_bool};
+ghost use Rattle.indexing.specs.Upto.{count_to, any_to};
 ghost use Rattle.indexing.specs.Columns.{group_of_head, needs_line, opens_bucket, lines_to, empty_list, list_lines, switch_recs};
 ghost use Rattle.index_writer.specs.Writing.{Puts};
 ghost use Rattle.index_writer.specs.Written.{bucket_opens, line_opens, bucket_needs_line, entry_by, entries_by, list_entries_by, switch_by};
@@ -63,7 +64,7 @@ pub fn opens_line(buckets: &Buckets, g: u32, i: usize) -> bool
 // One where clause i opens a line of group g, else nothing.
 pub fn line_step(buckets: &Buckets, g: u32, i: usize) -> u32
     requires { i < length buckets.now.heads.leaders.now }
-    ensures { (result ≡ bit (line_opens buckets.now.heads g i)) × (result ≤ 1) }
+    ensures { (result ≡ from_bool (line_opens buckets.now.heads g i)) × (result ≤ 1) }
 {
     u32::from(opens_line(buckets, g, i))
 }

@@ -40,17 +40,17 @@ fn tag_at(dynamic: bool, default: bool, own: u8, n: usize, k: usize) -> u8
     if dynamic {
         own
     } else if k == 0 {
-        Tag::Try as u8
+        Tag::Try.into()
     } else if k + 1 == n {
         if default {
-            Tag::DefaultTrust as u8
+            Tag::DefaultTrust.into()
         } else {
-            Tag::Trust as u8
+            Tag::Trust.into()
         }
     } else if default {
-        Tag::DefaultRetry as u8
+        Tag::DefaultRetry.into()
     } else {
-        Tag::Retry as u8
+        Tag::Retry.into()
     }
 }
 

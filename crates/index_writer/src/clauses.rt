@@ -1,4 +1,4 @@
-// The clauses of a line, in columns: a column has a number for each clause. Each struct holds the columns that the functions on it read.
+// The clauses of a line, in columns: a column has a number for each clause. Each struct holds the columns that its functions read, some of them not all.
 // Columns stay parallel arrays (see columns.rt). Heads, Buckets and Choices have no bound of 1,024: some of their readers ask none. opens has a number 0 or 1
 // for each argument, as the definitions have it; read_keys and fill_columns are public, and another type would ask more of their callers.
 ghost use Rattle.std.specs.Prelude.{◌≡◌, ◌*◌, ◌≤◌, length};
@@ -80,6 +80,19 @@ pub struct LineRooms<'a> {
     pub ghost few: { length buckets.heads.leaders.now ≤ 1024 },
     pub ghost opens_len: { length opens.now ≡ 32 * length buckets.heads.leaders.now },
     pub ghost dynamic_is: { buckets.heads.dynamic ≡ switched.settings.dynamic },
+}
+
+impl<'a> LineRooms<'a> {
+    // Where the clauses are open, by their leaders.
+    pub fn opens(&self) -> Opens<'a>
+        ensures leaders { result.leaders.now ≡ self.now.buckets.heads.leaders.now }
+        ensures opens { result.opens.now ≡ self.now.opens.now }
+    {
+        Opens {
+            leaders: self.buckets.heads.leaders,
+            opens: self.opens,
+        }
+    }
 }
 
 // What those lines are written by: with the offset and the tag of each clause.

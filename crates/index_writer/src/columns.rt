@@ -116,8 +116,8 @@ fn lead_columns(keys: &Keys, leaders: &mut [u32], sizes: &mut [u32])
     count_sizes(leaders, sizes);
 }
 
-// heads is read by place: arity, heads and opens have three lengths.
 // The open arguments of a clause, by the heads of its keys.
+// heads is read by place: arity, heads and opens have three lengths. arity ≤ 32 is asked as a row has 32 places.
 fn put_open_row(opens: &mut [u8], heads: &[u32], arity: u32)
     requires { (length opens.old ≡ 32) × (arity ≤ length heads.now) × (arity ≤ 32) }
     ensures { opens.new ≡ open_numbers heads.now arity }
@@ -315,5 +315,5 @@ pub fn start_choices(starts: &[u32], offs: &mut [u32], tags: &mut [u8])
     ensures tags_after { tags.new ≡ replicate (length starts.now) 7 }
 {
     start_offsets(starts, offs);
-    tags.fill(Tag::Z as u8);
+    tags.fill(u8::from(Tag::Z));
 }

@@ -1,7 +1,8 @@
-// The records of an index, by what they say. A kind becomes its number by `as`, and so do the parts of a head, which are proved to fit.
+// The records of an index, by what they say. The parts of a head become a u8 and a u16 by `as`: each is proved to fit.
 ghost use Rattle.std.specs.Prelude.{◌≡◌, ◌/◌, ◌%◌};
 ghost use Rattle.records.specs.Records.{rec_of};
 ghost use Rattle.indexing.specs.Kinds.{kind_number};
+ghost use Rattle.indexing.specs.Lines.{mode_of};
 
 use indexing::kinds::Kind;
 use records::Rec;
@@ -11,21 +12,21 @@ pub fn table(kind: Kind, argument: u16) -> Rec
     ensures { result ≡ rec_of (kind_number kind) 0 argument 0 0 }
 {
     Rec {
-        kind: kind as u8,
+        kind: kind.into(),
         half: argument,
-        ..records::zeros()
+        ..Rec::default()
     }
 }
 
-// The head of a line by its mode and number. The mode is the byte of the format, as the definition of a line has it.
-pub fn line(mode: u8, number: u32) -> Rec
-    ensures { result ≡ rec_of 1 mode 0 number 0 }
+// The head of a line by its number, with whether the line is dynamic as its mode.
+pub fn line(dynamic: bool, number: u32) -> Rec
+    ensures { result ≡ rec_of 1 (mode_of dynamic) 0 number 0 }
 {
     Rec {
-        kind: Kind::Line as u8,
-        sub: mode,
+        kind: Kind::Line.into(),
+        sub: indexing::mode_of(dynamic),
         word: number,
-        ..records::zeros()
+        ..Rec::default()
     }
 }
 
@@ -34,7 +35,7 @@ pub fn entry(head: u32, bits: u64, word: u32) -> Rec
     ensures { result ≡ rec_of 5 (head / 65536 % 256) (head % 65536) word bits }
 {
     Rec {
-        kind: Kind::Entry as u8,
+        kind: Kind::Entry.into(),
         sub: (head / 65536 % 256) as u8,
         half: (head % 65536) as u16,
         word,
@@ -47,10 +48,10 @@ pub fn choice(tag: u8, offset: u32) -> Rec
     ensures { result ≡ rec_of 6 tag 0 offset 0 }
 {
     Rec {
-        kind: Kind::Choice as u8,
+        kind: Kind::Choice.into(),
         sub: tag,
         word: offset,
-        ..records::zeros()
+        ..Rec::default()
     }
 }
 
@@ -59,8 +60,8 @@ pub fn dead_clause(offset: u32) -> Rec
     ensures { result ≡ rec_of 7 0 0 offset 0 }
 {
     Rec {
-        kind: Kind::DeadClause as u8,
+        kind: Kind::DeadClause.into(),
         word: offset,
-        ..records::zeros()
+        ..Rec::default()
     }
 }

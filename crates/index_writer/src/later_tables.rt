@@ -113,6 +113,7 @@ fn put_table(
 
 // Writes the tables for k arguments from b on of the bucket that clause i leads, and returns the place after them.
 // A loop of its own, as in buckets::put_entries: a turn writes to index, from the place that the turn before gives.
+// t counts from 0, as in the definition tables_at: over b..b + k each proof of a turn needs b + (number - b) = number as well.
 pub fn put_tables(
     index: &mut [u8],
     p: usize,
@@ -152,6 +153,7 @@ fn table_room(opens: &Opens, settings: Settings, i: usize, b: Argument) -> usize
 
 // How many records the tables for k arguments from b on of the bucket that clause i leads take.
 // The sum is a loop: its invariant is the bound and the length at once. `sum` needs a bound on the list of all rooms, which no clause says.
+// t counts from 0 as in put_tables.
 pub fn tables_room(opens: &Opens, settings: Settings, i: usize, b: u32, k: u32) -> usize
     requires le_b { (1 ≤ b) × (b + k ≤ 33) }
     ensures by_index { (offs : List ℕ) → result ≡ length (tables_at opens.now.leaders.now opens.now.opens.now offs settings.mask settings.extensible i b k) }

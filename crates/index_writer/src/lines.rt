@@ -7,7 +7,7 @@ ghost use Rattle.records.specs.Moves.{written};
 ghost use Rattle.index_writer.specs.Writing.{Puts};
 ghost use Rattle.index_writer.specs.Written.{rest_by, line_by, seed_by, new_line_by, group_lines_by, list_line_by, new_lines_by};
 
-use crate::clauses::{Choices, Clauses, NewLines, Opens, Tables};
+use crate::clauses::{Choices, Clauses, NewLines, Tables};
 use crate::switched::Switched;
 use crate::{buckets, choices, index_records, later_tables};
 use indexing::kinds::Kind;
@@ -42,8 +42,8 @@ fn put_line(
     requires { p + length (line_by clauses.now switched number i) ≤ length (records_of index.old) }
     ensures { Puts index.old index.new p result (line_by clauses.now switched number i) }
 {
-    let mode = indexing::mode_of(switched.settings.dynamic);
-    records::put(index, p, index_records::line(mode, number));
+    let line = index_records::line(switched.settings.dynamic, number);
+    records::put(index, p, line);
     put_rest(index, p + 1, clauses, switched, i)
 }
 
@@ -53,26 +53,22 @@ pub fn put_seed(index: &mut [u8], clauses: &Clauses, switched: Switched) -> usiz
     ensures value { result ≡ length (seed_by clauses.now switched) }
     ensures wrote { Wrote index.old index.new (written (records_of index.old) 0 (seed_by clauses.now switched)) }
 {
-    let mode = indexing::mode_of(switched.settings.dynamic);
-    records::put(index, 0, index_records::line(mode, 0));
+    let line = index_records::line(switched.settings.dynamic, 0);
+    records::put(index, 0, line);
     let on_demand = index_records::table(Kind::OnDemand, switched.arg as u16);
     records::put(index, 1, on_demand);
     put_rest(index, 2, clauses, switched, 0)
 }
 
-// Opens is written out here and in rooms::new_line_room: a method would promise by equations what the literal says by itself.
 // Writes the new line of a number for the bucket that clause i leads, and returns the place after it.
+// Opens is written out here and in rooms::new_line_room: a method would promise by equations what the literal says by itself.
 fn put_new_line(index: &mut [u8], p: usize, lines: &NewLines, number: u32, i: usize) -> usize
     requires { p + length (new_line_by lines.now number i) ≤ length (records_of index.old) }
     ensures { Puts index.old index.new p result (new_line_by lines.now number i) }
 {
-    let opens = Opens {
-        leaders: lines.rooms.buckets.heads.leaders,
-        opens: lines.rooms.opens,
-    };
     let clauses = Clauses {
         tables: Tables {
-            opens,
+            opens: lines.rooms.opens(),
             offs: lines.offs,
         },
         tags: lines.tags,

@@ -42,11 +42,7 @@ fn new_line_room(rooms: &LineRooms, i: usize) -> usize
     ensures by_index { (heads offs tags : List ℕ) (number : ℕ) → result ≡ length (line_of rooms.now.buckets.heads.leaders.now heads rooms.now.opens.now offs tags rooms.now.switched.settings rooms.now.switched.arg number i) }
     ensures upper_bound { result ≤ 33825 }
 {
-    let opens = Opens {
-        leaders: rooms.buckets.heads.leaders,
-        opens: rooms.opens,
-    };
-    line_room(&opens, rooms.switched, i)
+    line_room(&rooms.opens(), rooms.switched, i)
 }
 
 // How many records the line takes that clause i opens in group g, if it opens one.

@@ -6,7 +6,8 @@ use native.Mathlib.Decide.{ℕ_discrete}
 use native.Mathlib.Omega.{arith}
 use mathlib.Core.Bool.{Bool, true, false, cond, not}
 use mathlib.Core.List.{List}
-use lib.Dec.{eqb, ltb, leb→le}
+use Rattle.std.proofs.lemmas.Bool.{both_ways, eq-eqb, eqb-true, false_from_ne_true, le-ltb, lt-ltb, ne_eqb, true≢false}
+use lib.Dec.{eqb}
 use lib.ListN.{length, get_or}
 use Rattle.indexing_iter.specs.Keys.{sort_of, arity_of, bits_of, group_of, is_open, same}
 use Rattle.indexing_iter.specs.Rows.{head_of}
@@ -14,7 +15,6 @@ use Rattle.indexing_iter.specs.declared.OptArgIndexKey.{OptArgIndexKey as Key}
 use Rattle.indexing_iter.specs.declared.OptArgIndexKey.TheVariants.{List as ListKey, Literal, None, Structure}
 use Rattle.indexing.proofs.BridgeLists.{any-hit, any-clear, length-each, get_or-each}
 use Rattle.indexing_iter.proofs.SameKeys.{same_refl, same-eq}
-use Rattle.indexing.proofs.Tests.{eqb_same, eqb-true, eqb-other, bool-absurd, not-true, true-T, le-true}
 use Rattle.indexing.specs.Columns.{group_of_head, same_at, first_same, leader_of, leaders_to, heads_to, bits_to, member, leads}
 use Rattle.indexing.specs.Expanding.{heads_at, bits_at, leaders_at}
 use Rattle.indexing.specs.Upto.{any_to}
@@ -27,12 +27,6 @@ InRange None = Unit {0}
 InRange (Literal s b) = (1 ≤ s) × (s ≤ 3)
 InRange (Structure n f) = n < 65536
 InRange ListKey = Unit {0}
-
-pub lt-true : (m n : ℕ) → m < n → ltb m n ≡ true
-lt-true m n h = le-true (suc m) n h
-
-pub lt-false : (m n : ℕ) → n ≤ m → ltb m n ≡ false
-lt-false m n h = not-true (λ e. absurd (omega (arith, leb→le (suc m) n (true-T e))))
 
 pub head-sort : (k : Key) → InRange k → head_of k / 65536 % 256 ≡ sort_of k
 head-sort None r = refl
@@ -47,9 +41,9 @@ head-arity (Structure n f) r = omega arith
 head-arity ListKey r = refl
 
 pub head-group : (k : Key) → InRange k → is_open k ≡ false → group_of_head (head_of k) ≡ group_of k
-head-group None r e = bool-absurd refl e
-head-group (Literal s b) r e = rw (lt-true (s * 65536 + 0) 262144 (omega (arith, r.0, r.1)))
-head-group (Structure n f) r e = rw (lt-false (4 * 65536 + n) 262144 (omega arith), lt-true (4 * 65536 + n) 327680 (omega arith))
+head-group None r e = absurd (true≢false e)
+head-group (Literal s b) r e = rw (lt-ltb (s * 65536 + 0) 262144 (omega (arith, r.0, r.1)))
+head-group (Structure n f) r e = rw (le-ltb (4 * 65536 + n) 262144 (omega arith), lt-ltb (4 * 65536 + n) 327680 (omega arith))
 head-group ListKey r e = refl
 
 -- head and bits determine a key in range
@@ -75,11 +69,11 @@ pub head-same : (k l : Key) → InRange k → InRange l → cond (eqb (head_of k
 head-same k l r q = go (same k l) refl
   where
     told : (b : Bool) → eqb (head_of k) (head_of l) ≡ b → same k l ≡ false → cond b (eqb (bits_of k) (bits_of l)) false ≡ false
-    told true e z = not-true (λ f. absurd (bool-absurd (ap (same k) (sym (head-eq k l r q (eqb-true e) (eqb-true f))) ∙ same_refl k) z))
+    told true e z = false_from_ne_true _ (λ f. both_ways _ z (ap (same k) (sym (head-eq k l r q (eqb-true _ _ e) (eqb-true _ _ f))) ∙ same_refl k))
     told false e z = refl
 
     go : (b : Bool) → same k l ≡ b → cond (eqb (head_of k) (head_of l)) (eqb (bits_of k) (bits_of l)) false ≡ b
-    go true e = rw (same-eq k l e, eqb_same (head_of l), eqb_same (bits_of l))
+    go true e = rw (same-eq k l e, eq-eqb (head_of l) _ refl, eq-eqb (bits_of l) _ refl)
     go false e = told (eqb (head_of k) (head_of l)) refl e
 
 -- ---- the first place with an equal key
@@ -94,7 +88,7 @@ pub record First (t : ℕ → Bool) (i j m : ℕ) : Type 0 where
 module _ (heads bits : List ℕ) where
   pub same-at-refl : (j : ℕ) → same_at heads bits j j ≡ true
   unfolding same_at
-  same-at-refl j = rw (eqb_same (get_or heads j 0), eqb_same (get_or bits j 0))
+  same-at-refl j = rw (eq-eqb (get_or heads j 0) _ refl, eq-eqb (get_or bits j 0) _ refl)
 
   pub first-same : (j i k : ℕ) → i + k ≡ j → First (λ p. same_at heads bits p j) i j (first_same heads bits j i k)
   unfolding first_same
@@ -169,8 +163,8 @@ module _ (K : ℕ → ℕ → Key) (os : List ℕ) (a : ℕ) where
       where
         go : Dec (get_or (leaders_at K os a) i 0 ≡ i) → First (λ p. same (key_at p) (key_at i)) 0 i (get_or (leaders_at K os a) i 0)
             → eqb (get_or (leaders_at K os a) i 0) i ≡ not (any_to (λ j. same (key_at j) (key_at i)) i)
-        go (yes e) f = rw (any-clear (λ j. same (key_at j) (key_at i)) i (λ p k. f.before p (omega arith) (omega arith)), e) (eqb_same i)
-        go (no e) f = rw (any-hit (λ j. same (key_at j) (key_at i)) i (get_or (leaders_at K os a) i 0) (omega (arith, f.high)) f.hit) (eqb-other e)
+        go (yes e) f = rw (any-clear (λ j. same (key_at j) (key_at i)) i (λ p k. f.before p (omega arith) (omega arith)), e) (eq-eqb i i refl)
+        go (no e) f = rw (any-hit (λ j. same (key_at j) (key_at i)) i (get_or (leaders_at K os a) i 0) (omega (arith, f.high)) f.hit) (ne_eqb _ _ e)
 
     -- the clauses that clause i leads are those with its key
     pub member_is : (i j : ℕ) → i < length os → j < length os → leads (leaders_at K os a) i ≡ true → member (leaders_at K os a) i j ≡ same (key_at j) (key_at i)
@@ -190,18 +184,18 @@ module _ (K : ℕ → ℕ → Key) (os : List ℕ) (a : ℕ) where
         late : same (key_at j) (key_at i) ≡ true → lead < i → ⊥
         late s l =
             let q : key_at j ≡ key_at i = same-eq (key_at j) (key_at i) s in
-            let w : get_or (leaders_at K os a) i 0 ≡ i = eqb-true e in
-            bool-absurd (ap (same (key_at lead)) (sym q) ∙ its.hit) (mine.before lead (omega arith) (omega arith))
+            let w : get_or (leaders_at K os a) i 0 ≡ i = eqb-true _ _ e in
+            absurd (both_ways _ (mine.before lead (omega arith) (omega arith)) (ap (same (key_at lead)) (sym q) ∙ its.hit))
 
         early : same (key_at j) (key_at i) ≡ true → i < lead → ⊥
         early s l =
             let q : key_at j ≡ key_at i = same-eq (key_at j) (key_at i) s in
-            bool-absurd (ap (λ (x : Key). same x (key_at j)) (sym q) ∙ same_refl (key_at j)) (its.before i (omega arith) l)
+            absurd (both_ways _ (its.before i (omega arith) l) (ap (λ (x : Key). same x (key_at j)) (sym q) ∙ same_refl (key_at j)))
 
         go : (b : Bool) → same (key_at j) (key_at i) ≡ b → eqb lead i ≡ b
         go true s =
             let u : lead < i → ⊥ = late s in
             let v : i < lead → ⊥ = early s in
             let w : lead ≡ i = omega arith in
-            rw w (eqb_same i)
-        go false s = eqb-other (λ x. bool-absurd (ap (same (key_at j)) (sym (ap key_at x) ∙ same-eq (key_at lead) (key_at j) its.hit) ∙ same_refl (key_at j)) s)
+            rw w (eq-eqb i i refl)
+        go false s = ne_eqb _ _ (λ x. both_ways _ s (ap (same (key_at j)) (sym (ap key_at x) ∙ same-eq (key_at lead) (key_at j) its.hit) ∙ same_refl (key_at j)))

@@ -7,6 +7,7 @@ use native.Mathlib.Omega.{arith}
 use mathlib.Core.Bool.{Bool, true, false, cond}
 use mathlib.Core.List.{List, [], ◌∷◌, ◌++◌, map}
 use mathlib.Core.Option.{Option, none, some}
+use Rattle.std.specs.List.{filter}
 use lib.Dec.{eqb}
 use lib.ListN.{length, get_or}
 use Rattle.records.specs.declared.Rec.{Rec}
@@ -22,7 +23,6 @@ use Rattle.indexing.specs.Build.{Program, cons_line, pointer, after, open_at, ne
 use Rattle.indexing.specs.Build.{lines_for, entries_for, new_entries}
 use Rattle.indexing.specs.Columns.{needs_line, opens_bucket, lines_to, empty_list, list_lines, pointer_to, entry_of, entry_at, entries, list_entries, switch_recs}
 use Rattle.indexing.specs.Lines.{Ptr, Entry, Choice, Line, switch, offs, word, entry_rec, table_recs}
-use Rattle.indexing.specs.Lists.{keep}
 use Rattle.indexing.specs.Upto.{list_to}
 
 -- the entries of two runs of keys: the second's lines stand behind the first's
@@ -90,7 +90,7 @@ module _ (P : Program) (a : ℕ) (cs : List Choice) (ranged : (i : ℕ) → i < 
   keys-entries g d = entries-to g d (clauses P a cs) (omega arith) ∙ ap (list_to (turn_at g d)) (sym (leaders-count P a cs))
 
   module _ (keyed : open_at P a (offs cs) ≡ []) where
-    pub group-entries : (g d : ℕ) → map entry_rec (entries_for P a cs d (keep (λ k. eqb g (group_of k)) (keys_at P a (offs cs))))
+    pub group-entries : (g d : ℕ) → map entry_rec (entries_for P a cs d (filter (λ k. eqb g (group_of k)) (keys_at P a (offs cs))))
         ≡ entries (leaders P a cs) (heads P a cs) (bits P a cs) (offs cs) P.dynamic g d
     group-entries g d = ap (λ (ks : List Key). map entry_rec (entries_for P a cs d ks)) (group-keys P a cs ranged keyed g) ∙ keys-entries g d
 

@@ -7,6 +7,7 @@ use mathlib.Core.List.{List, [], ◌∷◌, ◌++◌, append_assoc}
 use mathlib.Core.Option.{some}
 use Prim.Native.Nat.{ℕ, ◌+◌, ◌-◌, ◌≤◌, ◌<◌}
 use native.Mathlib.Omega.{arith}
+use Rattle.std.proofs.lemmas.Bool.{eq-eqb}
 use lib.ListN.{length, get_or, take, drop, length-append}
 use lib.Seq.{slice, take_at, take-take, drop-append-add, take-length}
 use Rattle.records.specs.declared.Rec.{Rec}
@@ -22,7 +23,6 @@ use Rattle.indexing.specs.Build.{Program, program_by, initial, open_at, literals
 use Rattle.indexing.specs.Expand.{expanded, added, expand}
 use Rattle.indexing.specs.Seed.{seed}
 use Rattle.indexing.proofs.Built.{seed-clauses, seed-demand, seed-length, built-is-expanded}
-use Rattle.indexing.proofs.Tests.{eqb_same}
 use Rattle.indexing.proofs.Records.{before, behind, records-old, records-expand}
 use Rattle.indexing.proofs.Expand.{length-expand}
 use Rattle.indexing.proofs.Size.{length-records}
@@ -225,7 +225,7 @@ module _ (S : Settings) (K : ℕ → ℕ → Key) (all : List ℕ) (c : ℕ) (sm
 
   seeds-place : length (before (mode_of S.dynamic) line0 0 c) ≡ 1
   unfolding seed
-  seeds-place = rw (eqb_same c)
+  seeds-place = rw (eq-eqb c c refl)
 
   none_open : any_to (open_member zeros0 (opens_of S K all) all 0 c) (length all) ≡ false
   none_open = any-open-all S K small zeros0 all (zeros-replicate all) c above below ∙ ap occupied keyed

@@ -7,6 +7,8 @@ use native.Mathlib.Omega.{arith}
 use mathlib.Core.Bool.{Bool, true, false, cond, not}
 use mathlib.Core.List.{List, [], ◌∷◌, ◌++◌, map}
 use mathlib.Core.Option.{Option, none, some}
+use Rattle.std.specs.List.{filter}
+use Rattle.std.proofs.lemmas.Bool.{false≢true, le-leb, lt-leb, ne_eqb}
 use lib.Dec.{eqb, leb}
 use lib.ListN.{length, get_or, length-append}
 use Rattle.indexing_iter.specs.Keys.{group_of, is_open, same}
@@ -15,16 +17,16 @@ use Rattle.indexing_iter.specs.declared.OptArgIndexKey.TheVariants.{List as List
 use Rattle.indexing.specs.Expanding.{heads_at, bits_at, leaders_at}
 use Rattle.indexing.proofs.BridgeColumns.{InRange, head-group, key_at, length-leaders, get_or-heads, leads-is, member_is}
 use Rattle.indexing.proofs.BridgeLists.{count-any, list-cong, list-each, length_some, list-lone, map-list}
-use Rattle.indexing.proofs.BridgeLists.{keep-list, keep_one, keep-places, keep-neither, keep-within, distinct-each}
+use Rattle.indexing.proofs.BridgeLists.{keep-list, keep-places, keep-neither, keep-within, distinct-each}
 use Rattle.indexing.proofs.Expand.{offs-bucket}
 use Rattle.indexing_iter.proofs.SameKeys.{same_refl}
-use Rattle.indexing.proofs.Lists.{add-empty}
-use Rattle.indexing.proofs.Tests.{eqb-other, bool-absurd, not-true, le-true, le_of}
+use Rattle.indexing.proofs.Lists.{keep-empty}
 use Rattle.indexing.specs.Build.{Program, single, cons_line, open_at, new_line, keys_at, lists, bucket, bucket_of, lone, lines_for}
 use Rattle.indexing.specs.Columns.{group_of_head, member, leads, size_of, needs_line, opens_bucket, opens_line, lines_to, empty_list, list_lines}
 use Rattle.indexing.specs.Lines.{Choice, Line, offs}
-use Rattle.indexing.specs.Lists.{keep, distinct}
-use Rattle.indexing.specs.Upto.{bit, count_to, any_to, list_to}
+use Rattle.std.specs.Int.{from_bool}
+use Rattle.indexing.specs.Lists.{distinct}
+use Rattle.indexing.specs.Upto.{count_to, any_to, list_to}
 
 -- ---- choices and their offsets
 
@@ -39,40 +41,37 @@ eqb_swap m n = go (ℕ_discrete m n)
   where
     go : Dec (m ≡ n) → eqb m n ≡ eqb n m
     go (yes e) = rw e
-    go (no e) = eqb-other e ∙ sym (eqb-other (λ x. e (sym x)))
-
-pub le-false : (m n : ℕ) → n < m → leb m n ≡ false
-le-false m n h = not-true (λ e. absurd (omega (arith, le_of m n e)))
+    go (no e) = ne_eqb _ _ e ∙ sym (ne_eqb _ _ (λ x. e (sym x)))
 
 -- ---- clauses with a key at the argument
 
 -- where no clause is open, each has a key
 pub all-keyed : (P : Program) (a : ℕ) (os : List ℕ) → open_at P a os ≡ [] → (i : ℕ) → i < length os → is_open (key_at P.key_of os a i) ≡ false
 all-keyed P a [] e i h = absurd (omega arith)
-all-keyed P a (o ∷ os) e zero h = (add-empty (is_open (P.key_of o a)) o (open_at P a os) e).0
-all-keyed P a (o ∷ os) e (suc i) h = all-keyed P a os (add-empty (is_open (P.key_of o a)) o (open_at P a os) e).1 i (omega arith)
+all-keyed P a (o ∷ os) e zero h = (keep-empty (λ o. is_open (P.key_of o a)) o os e).0
+all-keyed P a (o ∷ os) e (suc i) h = all-keyed P a os (keep-empty (λ o. is_open (P.key_of o a)) o os e).1 i (omega arith)
 
 -- ---- the list key
 
 group-two : (k : Key) → eqb 2 (group_of k) ≡ true → k ≡ ListKey
-group-two None e = bool-absurd e refl
-group-two (Literal s b) e = bool-absurd e refl
-group-two (Structure n f) e = bool-absurd e refl
+group-two None e = absurd (false≢true e)
+group-two (Literal s b) e = absurd (false≢true e)
+group-two (Structure n f) e = absurd (false≢true e)
 group-two ListKey e = refl
 
 -- of the distinct keys of group 2 there is one, if any
-pub list-group : (ks : List Key) → 1 ≤ length (keep (λ k. eqb 2 (group_of k)) (distinct same ks)) → keep (λ k. eqb 2 (group_of k)) (distinct same ks) ≡ ListKey ∷ []
+pub list-group : (ks : List Key) → 1 ≤ length (filter (λ k. eqb 2 (group_of k)) (distinct same ks)) → filter (λ k. eqb 2 (group_of k)) (distinct same ks) ≡ ListKey ∷ []
 list-group [] h = absurd (omega arith)
 list-group (x ∷ xs) h = go x h (list-group xs)
   where
     -- behind a key of another group
     other : (y : Key) → not (same y ListKey) ≡ true
-        → keep (λ k. eqb 2 (group_of k)) (keep (λ k. not (same y k)) (distinct same xs)) ≡ keep (λ k. eqb 2 (group_of k)) (distinct same xs)
+        → filter (λ k. eqb 2 (group_of k)) (filter (λ k. not (same y k)) (distinct same xs)) ≡ filter (λ k. eqb 2 (group_of k)) (distinct same xs)
     other y e = keep-within (λ k. eqb 2 (group_of k)) (λ k. not (same y k)) (distinct same xs) (λ k f. ap (λ (z : Key). not (same y z)) (group-two k f) ∙ e)
 
-    go : (y : Key) → 1 ≤ length (keep (λ k. eqb 2 (group_of k)) (y ∷ keep (λ k. not (same y k)) (distinct same xs)))
-        → (1 ≤ length (keep (λ k. eqb 2 (group_of k)) (distinct same xs)) → keep (λ k. eqb 2 (group_of k)) (distinct same xs) ≡ ListKey ∷ [])
-        → keep (λ k. eqb 2 (group_of k)) (y ∷ keep (λ k. not (same y k)) (distinct same xs)) ≡ ListKey ∷ []
+    go : (y : Key) → 1 ≤ length (filter (λ k. eqb 2 (group_of k)) (y ∷ filter (λ k. not (same y k)) (distinct same xs)))
+        → (1 ≤ length (filter (λ k. eqb 2 (group_of k)) (distinct same xs)) → filter (λ k. eqb 2 (group_of k)) (distinct same xs) ≡ ListKey ∷ [])
+        → filter (λ k. eqb 2 (group_of k)) (y ∷ filter (λ k. not (same y k)) (distinct same xs)) ≡ ListKey ∷ []
     go None h ih = other None refl ∙ ih (omega (arith, ap length (other None refl)))
     go (Literal s b) h ih = other (Literal s b) refl ∙ ih (omega (arith, ap length (other (Literal s b) refl)))
     go (Structure n f) h ih = other (Structure n f) refl ∙ ih (omega (arith, ap length (other (Structure n f) refl)))
@@ -102,12 +101,12 @@ opens-leads leaders heads g i e = go (leads leaders i) e
   where
     go : (b : Bool) → cond b (eqb (group_of_head (get_or heads i 0)) g) false ≡ true → b ≡ true
     go true e = refl
-    go false e = bool-absurd e refl
+    go false e = absurd (false≢true e)
 
 pub empty-dynamic : (leaders heads : List ℕ) (d : Bool) → empty_list leaders heads d ≡ true → d ≡ true
 unfolding empty_list
 empty-dynamic leaders heads true e = refl
-empty-dynamic leaders heads false e = bool-absurd e refl
+empty-dynamic leaders heads false e = absurd (false≢true e)
 
 -- ---- a line's clauses at an argument
 
@@ -180,14 +179,14 @@ module _ (P : Program) (a : ℕ) (cs : List Choice) where
         mine = member_is P.key_of (offs cs) a ranged i i h h l ∙ same_refl (key i)
 
         static : Dec (2 ≤ size_of leaders i) → single false (bucket P a (offs cs) (key i)) ≡ cond (leb 2 (size_of leaders i)) none (some (get_or (offs cs) i 0))
-        static (yes q) = rw (le-true 2 (size_of leaders i) q) (single-two (bucket P a (offs cs) (key i)) (omega (arith, size_is i h l)))
+        static (yes q) = rw (le-leb 2 (size_of leaders i) q) (single-two (bucket P a (offs cs) (key i)) (omega (arith, size_is i h l)))
         static (no q) =
             let e : bucket P a (offs cs) (key i) ≡ get_or (offs cs) i 0 ∷ [] =
             bucket-is i h l
             ∙ list-lone (λ j. cond (member leaders i j) (get_or (offs cs) j 0 ∷ []) []) clauses i (get_or (offs cs) i 0) h
             (ap (λ (b : Bool). cond b (get_or (offs cs) i 0 ∷ []) []) mine)
             (omega (arith, size_is i h l, ap length (bucket-is i h l))) in
-            rw (le-false 2 (size_of leaders i) (omega arith)) (ap (single false) e)
+            rw (lt-leb 2 (size_of leaders i) (omega arith)) (ap (single false) e)
 
         go : (b : Bool) → single b (bucket P a (offs cs) (key i)) ≡ cond (cond b true (leb 2 (size_of leaders i))) none (some (get_or (offs cs) i 0))
         go true = refl
@@ -196,16 +195,16 @@ module _ (P : Program) (a : ℕ) (cs : List Choice) where
     -- ---- lines by groups
 
     line-turn : (g m : ℕ) → m < clauses
-        → length (lines_for P a cs (cond (opens_bucket leaders heads g m) (key m ∷ []) [])) ≡ bit (opens_line leaders heads P.dynamic g m)
+        → length (lines_for P a cs (cond (opens_bucket leaders heads g m) (key m ∷ []) [])) ≡ from_bool (opens_line leaders heads P.dynamic g m)
     unfolding opens_line
     line-turn g m h = go (opens_bucket leaders heads g m) refl
       where
-        made : (b : Bool) → length (cons_line (cond b none (some (get_or (offs cs) m 0))) (new_line P a (bucket_of P a cs (key m))) []) ≡ bit b
+        made : (b : Bool) → length (cons_line (cond b none (some (get_or (offs cs) m 0))) (new_line P a (bucket_of P a cs (key m))) []) ≡ from_bool b
         made true = refl
         made false = refl
 
         go : (b : Bool) → opens_bucket leaders heads g m ≡ b
-            → length (lines_for P a cs (cond b (key m ∷ []) [])) ≡ bit (cond b (needs_line leaders P.dynamic m) false)
+            → length (lines_for P a cs (cond b (key m ∷ []) [])) ≡ from_bool (cond b (needs_line leaders P.dynamic m) false)
         go true e = rw (lone_is m h (opens-leads leaders heads g m e)) (made (needs_line leaders P.dynamic m))
         go false e = refl
 
@@ -220,27 +219,26 @@ module _ (P : Program) (a : ℕ) (cs : List Choice) where
 
     module _ (keyed : open_at P a (offs cs) ≡ []) where
       -- the keys of a group, by first clause
-      pub group-keys : (g : ℕ) → keep (λ k. eqb g (group_of k)) (keys_at P a (offs cs)) ≡ keys_to g clauses
+      pub group-keys : (g : ℕ) → filter (λ k. eqb g (group_of k)) (keys_at P a (offs cs)) ≡ keys_to g clauses
       unfolding opens_bucket
       group-keys g =
-          ap (keep (λ k. eqb g (group_of k))) keys-at
+          ap (filter (λ k. eqb g (group_of k))) keys-at
           ∙ keep-list (λ k. eqb g (group_of k)) (λ i. cond (leads leaders i) (key i ∷ []) []) clauses
-          ∙ list-cong (λ i. keep (λ k. eqb g (group_of k)) (cond (leads leaders i) (key i ∷ []) []))
+          ∙ list-cong (λ i. filter (λ k. eqb g (group_of k)) (cond (leads leaders i) (key i ∷ []) []))
           (λ i. cond (cond (leads leaders i) (eqb (group_of_head (get_or heads i 0)) g) false) (key i ∷ []) []) clauses turn
         where
           turn : (i : ℕ) → i < clauses
-              → keep (λ k. eqb g (group_of k)) (cond (leads leaders i) (key i ∷ []) [])
+              → filter (λ k. eqb g (group_of k)) (cond (leads leaders i) (key i ∷ []) [])
               ≡ cond (cond (leads leaders i) (eqb (group_of_head (get_or heads i 0)) g) false) (key i ∷ []) []
           turn i h = go (leads leaders i)
             where
               its : group_of_head (get_or heads i 0) ≡ group_of (key i)
               its = ap group_of_head (get_or-heads P.key_of (offs cs) a i h) ∙ head-group (key i) (ranged i h) (all-keyed P a (offs cs) keyed i h)
 
-              go : (b : Bool) → keep (λ k. eqb g (group_of k)) (cond b (key i ∷ []) [])
+              go : (b : Bool) → filter (λ k. eqb g (group_of k)) (cond b (key i ∷ []) [])
                   ≡ cond (cond b (eqb (group_of_head (get_or heads i 0)) g) false) (key i ∷ []) []
               go true =
-                  keep_one (λ k. eqb g (group_of k)) (key i)
-                  ∙ ap (λ (b : Bool). cond b (key i ∷ []) []) (eqb_swap g (group_of (key i)) ∙ ap (λ (x : ℕ). eqb x g) (sym its))
+                  ap (λ (b : Bool). cond b (key i ∷ []) []) (eqb_swap g (group_of (key i)) ∙ ap (λ (x : ℕ). eqb x g) (sym its))
               go false = refl
 
       -- the list group: a line of its own in a dynamic switch without a list, else the keys of group 2
@@ -268,7 +266,7 @@ module _ (P : Program) (a : ℕ) (cs : List Choice) where
           go false = refl
 
       pub group_lines_lem : (g : ℕ)
-          → length (lines_for P a cs (keep (λ k. eqb g (group_of k)) (keys_at P a (offs cs)))) ≡ lines_to leaders heads P.dynamic g (length leaders)
+          → length (lines_for P a cs (filter (λ k. eqb g (group_of k)) (keys_at P a (offs cs)))) ≡ lines_to leaders heads P.dynamic g (length leaders)
       group_lines_lem g =
           ap (λ (ks : List Key). length (lines_for P a cs ks)) (group-keys g)
           ∙ lines-to g clauses (omega arith)

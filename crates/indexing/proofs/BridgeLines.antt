@@ -7,6 +7,8 @@ use mathlib.Core.Option.{none, some}
 use Prim.Native.Nat.{ℕ, zero, suc, ◌+◌, ◌-◌, ◌≤◌, ◌<◌}
 use native.Mathlib.Numerals.{add-one}
 use native.Mathlib.Omega.{arith}
+use Rattle.std.specs.List.{filter}
+use Rattle.std.proofs.lemmas.Bool.{both_ways, eq-eqb, false_from_ne_true, false≢true, ne_eqb}
 use lib.Dec.{eqb}
 use lib.ListN.{length, get_or, replicate, length-replicate, get_or-replicate}
 use Rattle.records.specs.declared.Rec.{Rec}
@@ -15,11 +17,11 @@ use Rattle.indexing_iter.specs.declared.OptArgIndexKey.{OptArgIndexKey as Key}
 use Rattle.indexing_iter.specs.declared.OptArgIndexKey.TheVariants.{List as ListKey}
 use Rattle.indexing_iter.specs.declared.Settings.{Settings}
 use Rattle.indexing_iter.specs.Keys.{group_of, same}
-use Rattle.indexing.specs.Upto.{bit, count_to, any_to, list_to}
+use Rattle.std.specs.Int.{from_bool}
+use Rattle.indexing.specs.Upto.{count_to, any_to, list_to}
 use Rattle.indexing.specs.Columns.{group_of_head, member, leads, size_of, needs_line, opens_bucket, opens_line, lines_to, empty_list, list_lines, open_member}
 use Rattle.indexing.specs.Columns.{tables_at, tag_at, choice_at, choices, line_of, line_at, group_lines, list_line, new_lines_recs, seed_recs, dead_recs}
 use Rattle.indexing.specs.Expanding.{tags_of, opens_of}
-use Rattle.indexing.specs.Lists.{add, keep}
 use Rattle.indexing.specs.Lines.{dead, Choice, Line, offs, dead_rec, table_recs, tables_recs, choice_rec, mode_of, records}
 use Rattle.indexing.specs.Build.{Program, program_by, cons_line, open_at, later_tables, tag_rest, tag_static, retag, new_line, keys_at, literals, lists}
 use Rattle.indexing.specs.Build.{initial, structures, bucket_of, lines_for, new_lines}
@@ -27,7 +29,6 @@ use Rattle.indexing.specs.Seed.{seed}
 use Rattle.indexing.proofs.Built.{offs-initial}
 use Rattle.indexing_iter.proofs.SameKeys.{same-eq}
 use Rattle.indexing.proofs.Records.{records-append}
-use Rattle.indexing.proofs.Tests.{eqb_same, eqb-other, bool-absurd, not-true}
 use Rattle.indexing.proofs.BridgeLists.{list-cong, any-hit, any-clear}
 use Rattle.indexing.proofs.BridgeColumns.{InRange, head-group, First, get_or-heads, leader-key, leads-is, member_is}
 use Rattle.indexing.proofs.BridgeGroups.{length-offs, all-keyed, lines-append, opens-leads, clauses, key, heads, leaders, keys_to}
@@ -48,13 +49,13 @@ module _ {A B : Type 0} where
   list-numbered f d k t [] = refl
   list-numbered f d k t (x ∷ xs) =
       let s : ℕ → Bool = λ j. t (suc j) in
-      let next : (j : ℕ) → k + count_to t (suc j) ≡ k + bit (t 0) + count_to s j = λ j. omega (arith, count-first t j) in
+      let next : (j : ℕ) → k + count_to t (suc j) ≡ k + from_bool (t 0) + count_to s j = λ j. omega (arith, count-first t j) in
       list-first (λ j. cond (t j) (f (k + count_to t j) (get_or (x ∷ xs) j d) ∷ []) []) (length xs)
       ∙ ap (λ (r : List B). cond (t 0) (f (k + 0) x ∷ []) [] ++ r)
-      (list-cong _ _ (length xs) (λ j h. ap (λ (n : ℕ). cond (s j) (f n (get_or xs j d) ∷ []) []) (next j)) ∙ list-numbered f d (k + bit (t 0)) s xs)
+      (list-cong _ _ (length xs) (λ j h. ap (λ (n : ℕ). cond (s j) (f n (get_or xs j d) ∷ []) []) (next j)) ∙ list-numbered f d (k + from_bool (t 0)) s xs)
       ∙ go (t 0) (chosen s xs)
     where
-      go : (b : Bool) (r : List A) → cond b (f (k + 0) x ∷ []) [] ++ numbered f (k + bit b) r ≡ numbered f k (add b x r)
+      go : (b : Bool) (r : List A) → cond b (f (k + 0) x ∷ []) [] ++ numbered f (k + from_bool b) r ≡ numbered f k (cond b (x ∷ r) r)
       go true r =
           let e : k + 0 ≡ k = omega arith in
           rw (e, add-one k)
@@ -104,9 +105,9 @@ unfolding tag_at
 tagged-rest P n k [] p q = refl
 tagged-rest P n k (c ∷ []) p q =
     let e : k + 1 ≡ n = q in
-    rw (eqb-other {m = k} {n = 0} (λ z. omega arith), e, eqb_same n)
+    rw (ne_eqb k 0 (λ z. omega arith), e, eq-eqb n n refl)
 tagged-rest P n k (c ∷ (d ∷ ds)) p q =
-    rw (eqb-other {m = k} {n = 0} (λ z. omega arith), eqb-other {m = k + 1} {n = n} (λ z. omega arith))
+    rw (ne_eqb k 0 (λ z. omega arith), ne_eqb (k + 1) n (λ z. omega arith))
     (ap (λ (r : List Rec). rec_of 6 (cond P.non_counted 3 2) 0 c.offset 0 ∷ r) (tagged-rest P n (suc k) (d ∷ ds) (omega arith) (omega arith)))
 
 tagged-static : (P : Program) (n : ℕ) (cs : List Choice) → length cs ≡ n → numbered (tagged false P.non_counted n) 0 cs ≡ map choice_rec (tag_static P cs)
@@ -220,10 +221,10 @@ module _ (S : Settings) (K : ℕ → ℕ → Key) (small : S.arity ≤ 32) (zero
       let cs : List Choice = initial 7 os in
       let e : offs cs ≡ os = offs-initial 7 os in
       let n : length cs ≡ length os = length-initial 7 os in
-      let every : chosen (member zeros 0) cs ≡ cs = all-members zeros os Z cs n in
+      let list_all : chosen (member zeros 0) cs ≡ cs = all-members zeros os Z cs n in
       let tables = tables-are S K cs zeros (Z.whole ∙ sym n) 0 c h small in
       let offsets = choices-are S K cs zeros (Z.whole ∙ sym n) 0 tags own in
-      rw (rw (every, e) at tables, rw (every, e) at offsets, append-nil (map choice_rec (retag (program_by S K) cs)))
+      rw (rw (list_all, e) at tables, rw (list_all, e) at offsets, append-nil (map choice_rec (retag (program_by S K) cs)))
 
 -- ---- the new lines of a switch on argument a
 
@@ -266,7 +267,7 @@ module _ (S : Settings) (K : ℕ → ℕ → Key) (a : ℕ) (cs : List Choice) (
   no-list : open_at P a (offs cs) ≡ [] → empty_list (leaders P a cs) (heads P a cs) S.dynamic ≡ true
       → (j : ℕ) → j < clauses P a cs → same (key P a cs j) ListKey ≡ false
   unfolding empty_list opens_bucket
-  no-list keyed e j h = not-true (λ s. bool-absurd (listed s) (none-opens S.dynamic e))
+  no-list keyed e j h = false_from_ne_true _ (λ s. both_ways _ (none-opens S.dynamic e) (listed s))
     where
       m : ℕ
       m = get_or (leaders P a cs) j 0
@@ -287,8 +288,8 @@ module _ (S : Settings) (K : ℕ → ℕ → Key) (a : ℕ) (cs : List Choice) (
 
       none-opens : (d : Bool) → empty_list (leaders P a cs) (heads P a cs) d ≡ true
           → any_to (opens_bucket (leaders P a cs) (heads P a cs) 2) (length (leaders P a cs)) ≡ false
-      none-opens true f = not-true (λ x. bool-absurd f (ap not x))
-      none-opens false f = bool-absurd f refl
+      none-opens true f = false_from_ne_true _ (λ x. both_ways _ (ap not x) f)
+      none-opens false f = absurd (false≢true f)
 
       listed : same (key P a cs j) ListKey ≡ true → any_to (opens_bucket (leaders P a cs) (heads P a cs) 2) (length (leaders P a cs)) ≡ true
       listed s =
@@ -305,7 +306,7 @@ module _ (S : Settings) (K : ℕ → ℕ → Key) (a : ℕ) (cs : List Choice) (
   unfolding member
   led-none keyed e = sym (chosen-keep (member (leaders P a cs) (length (leaders P a cs))) (λ c. same (K c.offset a) ListKey) no_choice cs
       (λ j k. (let h : j < clauses P a cs = omega (arith, length-offs cs) in
-      eqb-other {m = get_or (leaders P a cs) j 0} {n = length (leaders P a cs)}
+      ne_eqb (get_or (leaders P a cs) j 0) (length (leaders P a cs))
       (λ z. omega (arith, (leader-key K (offs cs) a ranged j h).high, leaders-count P a cs))
       ∙ sym (no-list keyed e j h)
       ∙ ap (λ (o : ℕ). same (K o a) ListKey) (offs-at cs j))))
@@ -365,7 +366,7 @@ module _ (S : Settings) (K : ℕ → ℕ → Key) (a : ℕ) (cs : List Choice) (
               (sym (line-is S K cs (leaders P a cs) whole (length (leaders P a cs)) tags (heads P a cs) a number own low small))
           go false e = keys-lines 2 number
 
-      pub group-lines-are : (g number : ℕ) → records mode number (lines_for P a cs (keep (λ k. eqb g (group_of k)) (keys_at P a (offs cs))))
+      pub group-lines-are : (g number : ℕ) → records mode number (lines_for P a cs (filter (λ k. eqb g (group_of k)) (keys_at P a (offs cs))))
           ≡ group_lines (leaders P a cs) (heads P a cs) (opens_of S K (offs cs)) (offs cs) tags S a g number
       group-lines-are g number = ap (λ (ks : List Key). records mode number (lines_for P a cs ks)) (group-keys P a cs ranged keyed g) ∙ keys-lines g number
 

@@ -7,12 +7,16 @@ use native.Mathlib.Decide.{ℕ_discrete}
 use native.Mathlib.Omega.{arith}
 use mathlib.Core.Bool.{Bool, true, false, cond, not, ◌||◌}
 use mathlib.Core.List.{List, [], ◌∷◌, ◌++◌, map}
+use Rattle.std.specs.List.{filter, list_any}
+use Rattle.std.proofs.lemmas.Bool.{both_ways, false≢true}
+use Rattle.std.proofs.Math.Bool.{or-true}
+use Rattle.std.proofs.lemmas.List.Elements.{filter-append}
+use Rattle.std.proofs.lemmas.List.Folds.{list_any-append}
 use lib.ListN.{length, get_or, length-append, get_or-append}
 use lib.Seq.{get_or_at, ext_get_or}
-use Rattle.indexing.proofs.Lists.{any_append}
-use Rattle.indexing.proofs.Tests.{or-true, bool-absurd}
-use Rattle.indexing.specs.Lists.{add, keep, any_of, distinct}
-use Rattle.indexing.specs.Upto.{bit, count_to, any_to, list_to}
+use Rattle.std.specs.Int.{from_bool}
+use Rattle.indexing.specs.Lists.{distinct}
+use Rattle.indexing.specs.Upto.{count_to, any_to, list_to}
 
 -- ---- numbers that pass a test
 
@@ -30,7 +34,7 @@ any-hit t (suc n) j h e = go (t n) refl (λ k. any-hit t n j k e)
     go : (b : Bool) → t n ≡ b → (j < n → any_to t n ≡ true) → cond b true (any_to t n) ≡ true
     go true q k = refl
     go false q k =
-        let w : j ≡ n → ⊥ = λ x. bool-absurd (sym (ap t x) ∙ e) q in
+        let w : j ≡ n → ⊥ = λ x. both_ways _ q (sym (ap t x) ∙ e) in
         k (omega arith)
 
 -- no number below n passes the test
@@ -41,10 +45,10 @@ any-clear t (suc n) h = rw (h n (omega arith)) (any-clear t n (λ i k. h i (omeg
 
 pub count-any : (t : ℕ → Bool) (n : ℕ) → any_to t n ≡ true → 1 ≤ count_to t n
 unfolding any_to count_to
-count-any t zero e = bool-absurd e refl
+count-any t zero e = absurd (false≢true e)
 count-any t (suc n) e = go (t n) e (count-any t n)
   where
-    go : (b : Bool) → cond b true (any_to t n) ≡ true → (any_to t n ≡ true → 1 ≤ count_to t n) → 1 ≤ count_to t n + bit b
+    go : (b : Bool) → cond b true (any_to t n) ≡ true → (any_to t n ≡ true → 1 ≤ count_to t n) → 1 ≤ count_to t n + from_bool b
     go true e ih = omega arith
     go false e ih = omega (arith, ih e)
 
@@ -83,7 +87,7 @@ module _ {A : Type 0} where
   length_some t f (suc n) = go (t n) (length_some t f n)
     where
       go : (b : Bool) → length (list_to (λ i. cond (t i) (f i ∷ []) []) n) ≡ count_to t n
-          → length (list_to (λ i. cond (t i) (f i ∷ []) []) n ++ cond b (f n ∷ []) []) ≡ count_to t n + bit b
+          → length (list_to (λ i. cond (t i) (f i ∷ []) []) n ++ cond b (f n ∷ []) []) ≡ count_to t n + from_bool b
       go true ih = omega (arith, length-append (list_to (λ i. cond (t i) (f i ∷ []) []) n) (f n ∷ []))
       go false ih = omega (arith, length-append (list_to (λ i. cond (t i) (f i ∷ []) []) n) [])
 
@@ -119,83 +123,68 @@ map-list h f zero = refl
 map-list {A} {B} h f (suc n) = map-append h (list_to f n) (f n) ∙ ap (λ (l : List B). l ++ map h (f n)) (map-list h f n)
 
 module _ {A : Type 0} where
-  pub keep_append : (p : A → Bool) (xs ys : List A) → keep p (xs ++ ys) ≡ keep p xs ++ keep p ys
-  keep_append p [] ys = refl
-  keep_append p (x ∷ xs) ys = go (p x) (keep_append p xs ys)
-    where
-      go : (b : Bool) → keep p (xs ++ ys) ≡ keep p xs ++ keep p ys → add b x (keep p (xs ++ ys)) ≡ add b x (keep p xs) ++ keep p ys
-      go true ih = ap (λ (l : List A). x ∷ l) ih
-      go false ih = ih
-
-  pub keep-list : (p : A → Bool) (f : ℕ → List A) (n : ℕ) → keep p (list_to f n) ≡ list_to (λ i. keep p (f i)) n
+  pub keep-list : (p : A → Bool) (f : ℕ → List A) (n : ℕ) → filter p (list_to f n) ≡ list_to (λ i. filter p (f i)) n
   unfolding list_to
   keep-list p f zero = refl
-  keep-list p f (suc n) = keep_append p (list_to f n) (f n) ∙ ap (λ (l : List A). l ++ keep p (f n)) (keep-list p f n)
-
-  pub keep_one : (p : A → Bool) (x : A) → keep p (x ∷ []) ≡ cond (p x) (x ∷ []) []
-  keep_one p x = go (p x)
-    where
-      go : (b : Bool) → add b x [] ≡ cond b (x ∷ []) []
-      go true = refl
-      go false = refl
+  keep-list p f (suc n) = filter-append p (list_to f n) (f n) ∙ ap (λ (l : List A). l ++ filter p (f n)) (keep-list p f n)
 
   -- what a test keeps, by places
-  pub keep-places : (p : A → Bool) (xs : List A) (d : A) → keep p xs ≡ list_to (λ i. cond (p (get_or xs i d)) (get_or xs i d ∷ []) []) (length xs)
+  pub keep-places : (p : A → Bool) (xs : List A) (d : A) → filter p xs ≡ list_to (λ i. cond (p (get_or xs i d)) (get_or xs i d ∷ []) []) (length xs)
   keep-places p xs d =
-      ap (keep p) (list-each xs d)
+      ap (filter p) (list-each xs d)
       ∙ keep-list p (λ i. get_or xs i d ∷ []) (length xs)
-      ∙ list-cong (λ i. keep p (get_or xs i d ∷ [])) (λ i. cond (p (get_or xs i d)) (get_or xs i d ∷ []) []) (length xs) (λ i h. keep_one p (get_or xs i d))
 
   -- two tests of which no element passes both
-  pub keep-neither : (p q : A → Bool) (xs : List A) → ((x : A) → p x ≡ true → q x ≡ false) → keep p (keep q xs) ≡ []
+  pub keep-neither : (p q : A → Bool) (xs : List A) → ((x : A) → p x ≡ true → q x ≡ false) → filter p (filter q xs) ≡ []
   keep-neither p q [] h = refl
   keep-neither p q (x ∷ xs) h = go (p x) (q x) refl refl (keep-neither p q xs h)
     where
-      go : (b c : Bool) → p x ≡ b → q x ≡ c → keep p (keep q xs) ≡ [] → keep p (add c x (keep q xs)) ≡ []
-      go true true e f ih = bool-absurd f (h x e)
+      go : (b c : Bool) → p x ≡ b → q x ≡ c → filter p (filter q xs) ≡ [] → filter p (cond c (x ∷ filter q xs) (filter q xs)) ≡ []
+      go true true e f ih = absurd (both_ways _ (h x e) f)
       go true false e f ih = ih
       go false true e f ih = rw e ih
       go false false e f ih = ih
 
   -- a test that each element which passes another passes too
-  pub keep-within : (p q : A → Bool) (xs : List A) → ((x : A) → p x ≡ true → q x ≡ true) → keep p (keep q xs) ≡ keep p xs
+  pub keep-within : (p q : A → Bool) (xs : List A) → ((x : A) → p x ≡ true → q x ≡ true) → filter p (filter q xs) ≡ filter p xs
   keep-within p q [] h = refl
   keep-within p q (x ∷ xs) h = go (p x) (q x) refl refl (keep-within p q xs h)
     where
-      go : (b c : Bool) → p x ≡ b → q x ≡ c → keep p (keep q xs) ≡ keep p xs → keep p (add c x (keep q xs)) ≡ add b x (keep p xs)
+      go : (b c : Bool) → p x ≡ b → q x ≡ c → filter p (filter q xs) ≡ filter p xs
+          → filter p (cond c (x ∷ filter q xs) (filter q xs)) ≡ cond b (x ∷ filter p xs) (filter p xs)
       go true true e f ih = rw e (ap (λ (l : List A). x ∷ l) ih)
-      go true false e f ih = bool-absurd (h x e) f
+      go true false e f ih = absurd (both_ways _ f (h x e))
       go false true e f ih = rw e ih
       go false false e f ih = ih
 
 -- ---- distinct elements
 
 module _ {A : Type 0} where
-  pub any-each : (t : A → Bool) (f : ℕ → A) (n : ℕ) → any_of t (list_to (λ i. f i ∷ []) n) ≡ any_to (λ i. t (f i)) n
+  pub any-each : (t : A → Bool) (f : ℕ → A) (n : ℕ) → list_any t (list_to (λ i. f i ∷ []) n) ≡ any_to (λ i. t (f i)) n
   unfolding list_to any_to
   any-each t f zero = refl
-  any-each t f (suc n) = any_append t (list_to (λ i. f i ∷ []) n) (f n ∷ []) ∙ go (t (f n)) (any-each t f n)
+  any-each t f (suc n) = list_any-append t (list_to (λ i. f i ∷ []) n) (f n ∷ []) ∙ go (t (f n)) (any-each t f n)
     where
       last : (c : Bool) → c || false ≡ c
       last true = refl
       last false = refl
 
-      go : (b : Bool) → any_of t (list_to (λ i. f i ∷ []) n) ≡ any_to (λ i. t (f i)) n
-          → any_of t (list_to (λ i. f i ∷ []) n) || (b || false) ≡ cond b true (any_to (λ i. t (f i)) n)
-      go true ih = or-true (any_of t (list_to (λ i. f i ∷ []) n))
-      go false ih = last (any_of t (list_to (λ i. f i ∷ []) n)) ∙ ih
+      go : (b : Bool) → list_any t (list_to (λ i. f i ∷ []) n) ≡ any_to (λ i. t (f i)) n
+          → list_any t (list_to (λ i. f i ∷ []) n) || (b || false) ≡ cond b true (any_to (λ i. t (f i)) n)
+      go true ih = or-true (list_any t (list_to (λ i. f i ∷ []) n))
+      go false ih = last (list_any t (list_to (λ i. f i ∷ []) n)) ∙ ih
 
   module _ (same : A → A → Bool) where
     -- one more element: it is new, or an earlier one is the same
-    pub distinct_snoc : (xs : List A) (k : A) → distinct same (xs ++ (k ∷ [])) ≡ distinct same xs ++ cond (any_of (λ y. same y k) xs) [] (k ∷ [])
+    pub distinct_snoc : (xs : List A) (k : A) → distinct same (xs ++ (k ∷ [])) ≡ distinct same xs ++ cond (list_any (λ y. same y k) xs) [] (k ∷ [])
     distinct_snoc [] k = refl
     distinct_snoc (x ∷ xs) k =
         ap (λ (l : List A). x ∷ l)
-        (ap (keep (λ y. not (same x y))) (distinct_snoc xs k)
-        ∙ keep_append (λ y. not (same x y)) (distinct same xs) (cond (any_of (λ y. same y k) xs) [] (k ∷ []))
-        ∙ ap (λ (l : List A). keep (λ y. not (same x y)) (distinct same xs) ++ l) (go (any_of (λ y. same y k) xs) (same x k) refl))
+        (ap (filter (λ y. not (same x y))) (distinct_snoc xs k)
+        ∙ filter-append (λ y. not (same x y)) (distinct same xs) (cond (list_any (λ y. same y k) xs) [] (k ∷ []))
+        ∙ ap (λ (l : List A). filter (λ y. not (same x y)) (distinct same xs) ++ l) (go (list_any (λ y. same y k) xs) (same x k) refl))
       where
-        go : (b c : Bool) → same x k ≡ c → keep (λ y. not (same x y)) (cond b [] (k ∷ [])) ≡ cond (c || b) [] (k ∷ [])
+        go : (b c : Bool) → same x k ≡ c → filter (λ y. not (same x y)) (cond b [] (k ∷ [])) ≡ cond (c || b) [] (k ∷ [])
         go true c e = rw (or-true c)
         go false true e = rw e
         go false false e = rw e

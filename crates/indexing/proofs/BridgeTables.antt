@@ -8,7 +8,9 @@ use mathlib.Core.Option.{Option, none, some}
 use Prim.Native.Nat.{ℕ, zero, suc, ◌+◌, ◌-◌, ◌*◌, ◌≤◌, ◌<◌}
 use native.Mathlib.Decide.{dec_le}
 use native.Mathlib.Omega.{arith}
-use lib.Dec.{eqb, ltb, lt→ltb}
+use Rattle.std.specs.List.{filter}
+use Rattle.std.proofs.lemmas.Bool.{lt-ltb}
+use lib.Dec.{eqb, ltb}
 use lib.ListN.{length, get_or, length-append, get_or-append}
 use lib.Seq.{get_or-append-add}
 use Rattle.records.specs.declared.Rec.{Rec}
@@ -16,15 +18,14 @@ use Rattle.records.specs.Records.{rec_of}
 use Rattle.indexing_iter.specs.declared.OptArgIndexKey.{OptArgIndexKey as Key}
 use Rattle.indexing_iter.specs.declared.Settings.{Settings}
 use Rattle.indexing_iter.specs.Keys.{is_open}
-use Rattle.indexing.specs.Upto.{bit, count_to, any_to, list_to}
+use Rattle.std.specs.Int.{from_bool}
+use Rattle.indexing.specs.Upto.{count_to, any_to, list_to}
 use Rattle.indexing.specs.Columns.{open_row, opens_to, member, open_member, dead_clauses, table_at, tables_at}
 use Rattle.indexing.specs.Expanding.{opens_of}
-use Rattle.indexing.specs.Lists.{add, keep}
 use Rattle.indexing.specs.Lines.{Table, dead, Choice, offs, dead_rec, table_recs, tables_recs}
 use Rattle.indexing.specs.Build.{program_by, masked_at, cons_opt, open_at, new_table, later_table, later_tables}
 use Rattle.indexing.proofs.BridgeLists.{list-cong, any-cong, length-each, get_or-each}
 use Rattle.indexing.proofs.Expand.{add-offs}
-use Rattle.indexing.proofs.Tests.{T_true}
 
 -- ---- loops over the numbers below n, with the first turn taken apart
 
@@ -48,7 +49,7 @@ any-first t (suc n) = ap (cond (t (suc n)) true) (any-first t n) ∙ go (t (suc 
     go true false z = refl
     go false y z = refl
 
-pub count-first : (t : ℕ → Bool) (n : ℕ) → count_to t (suc n) ≡ bit (t 0) + count_to (λ j. t (suc j)) n
+pub count-first : (t : ℕ → Bool) (n : ℕ) → count_to t (suc n) ≡ from_bool (t 0) + count_to (λ j. t (suc j)) n
 unfolding count_to
 count-first t zero = omega arith
 count-first t (suc n) = omega (arith, count-first t n)
@@ -75,7 +76,7 @@ module _ {A : Type 0} (d : A) where
           rw (at, get_or-append-add (list_to f n) (f n) b d, e)
       go (no r) ih = get_or-append (list_to f n) (f n) d (32 * j + b) (omega (arith, length-rows f h n)) ∙ ih (omega arith)
 
-one-is : (b : Bool) → eqb (bit b) 1 ≡ b
+one-is : (b : Bool) → eqb (from_bool b) 1 ≡ b
 one-is true = refl
 one-is false = refl
 
@@ -84,8 +85,8 @@ pub opens_at : (K : ℕ → ℕ → Key) (arity : ℕ) (os : List ℕ) (n j b : 
     → eqb (get_or (opens_to K arity os n) (32 * j + (b - 1)) 0) 1 ≡ is_open (K (get_or os j 0) b)
 unfolding opens_to open_row
 opens_at K arity os n j b h p q r =
-    let f : ℕ → ℕ → ℕ = λ j b. bit (cond (ltb b arity) (is_open (K (get_or os j 0) (b + 1))) false) in
-    let inside : ltb (b - 1) arity ≡ true = T_true (ltb (b - 1) arity) (lt→ltb (b - 1) arity (omega arith)) in
+    let f : ℕ → ℕ → ℕ = λ j b. from_bool (cond (ltb b arity) (is_open (K (get_or os j 0) (b + 1))) false) in
+    let inside : ltb (b - 1) arity ≡ true = lt-ltb (b - 1) arity (omega arith) in
     let back : b - 1 + 1 ≡ b = omega arith in
     ap (λ (x : ℕ). eqb x 1) (
     row-element 0 (λ j. open_row K arity (get_or os j 0)) (λ j. length-each (f j) 32) n j (b - 1) h (omega arith)
@@ -102,17 +103,17 @@ module _ {A : Type 0} where
   -- the elements whose places pass the test, in order
   abbrev pub chosen : (ℕ → Bool) → List A → List A
   chosen t [] = []
-  chosen t (x ∷ xs) = add (t 0) x (chosen (λ j. t (suc j)) xs)
+  chosen t (x ∷ xs) = cond (t 0) (x ∷ chosen (λ j. t (suc j)) xs) (chosen (λ j. t (suc j)) xs)
 
   pub chosen-all : (t : ℕ → Bool) (xs : List A) → ((j : ℕ) → j < length xs → t j ≡ true) → chosen t xs ≡ xs
   chosen-all t [] h = refl
   chosen-all t (x ∷ xs) h = rw (h 0 (omega arith), chosen-all (λ j. t (suc j)) xs (λ j k. h (suc j) (omega arith)))
 
   -- where the test is one of the elements
-  pub chosen-keep : (t : ℕ → Bool) (p : A → Bool) (d : A) (xs : List A) → ((j : ℕ) → j < length xs → t j ≡ p (get_or xs j d)) → chosen t xs ≡ keep p xs
+  pub chosen-keep : (t : ℕ → Bool) (p : A → Bool) (d : A) (xs : List A) → ((j : ℕ) → j < length xs → t j ≡ p (get_or xs j d)) → chosen t xs ≡ filter p xs
   chosen-keep t p d [] h = refl
   chosen-keep t p d (x ∷ xs) h =
-      ap₂ (λ (b : Bool) (ys : List A). add b x ys) (h 0 (omega arith)) (chosen-keep (λ j. t (suc j)) p d xs (λ j k. h (suc j) (omega arith)))
+      ap₂ (λ (b : Bool) (ys : List A). cond b (x ∷ ys) ys) (h 0 (omega arith)) (chosen-keep (λ j. t (suc j)) p d xs (λ j k. h (suc j) (omega arith)))
 
   pub length-chosen : (t : ℕ → Bool) (xs : List A) → length (chosen t xs) ≡ count_to t (length xs)
   unfolding count_to
@@ -120,7 +121,7 @@ module _ {A : Type 0} where
   length-chosen t (x ∷ xs) = go (t 0) (length-chosen (λ j. t (suc j)) xs) ∙ sym (count-first t (length xs))
     where
       go : (b : Bool) → length (chosen (λ j. t (suc j)) xs) ≡ count_to (λ j. t (suc j)) (length xs)
-          → length (add b x (chosen (λ j. t (suc j)) xs)) ≡ bit b + count_to (λ j. t (suc j)) (length xs)
+          → length (cond b (x ∷ chosen (λ j. t (suc j)) xs) (chosen (λ j. t (suc j)) xs)) ≡ from_bool b + count_to (λ j. t (suc j)) (length xs)
       go true ih = omega arith
       go false ih = omega arith
 
@@ -130,7 +131,7 @@ module _ {A : Type 0} where
     passed t xs j = cond (t j) (p (get_or xs j d)) false
 
     pub list-chosen : {B : Type 0} (f : A → B) (t : ℕ → Bool) (xs : List A)
-        → list_to (λ j. cond (passed t xs j) (f (get_or xs j d) ∷ []) []) (length xs) ≡ map f (keep p (chosen t xs))
+        → list_to (λ j. cond (passed t xs j) (f (get_or xs j d) ∷ []) []) (length xs) ≡ map f (filter p (chosen t xs))
     unfolding list_to
     list-chosen f t [] = refl
     list-chosen {B} f t (x ∷ xs) =
@@ -138,15 +139,15 @@ module _ {A : Type 0} where
         ∙ ap (λ (r : List B). cond (cond (t 0) (p x) false) (f x ∷ []) [] ++ r) (list-chosen f (λ j. t (suc j)) xs)
         ∙ go (t 0) (chosen (λ j. t (suc j)) xs)
       where
-        kept : (y : Bool) (r : List A) → cond y (f x ∷ []) [] ++ map f r ≡ map f (add y x r)
+        kept : (y : Bool) (r : List A) → cond y (f x ∷ []) [] ++ map f r ≡ map f (cond y (x ∷ r) r)
         kept true r = refl
         kept false r = refl
 
-        go : (b : Bool) (r : List A) → cond (cond b (p x) false) (f x ∷ []) [] ++ map f (keep p r) ≡ map f (keep p (add b x r))
-        go true r = kept (p x) (keep p r)
+        go : (b : Bool) (r : List A) → cond (cond b (p x) false) (f x ∷ []) [] ++ map f (filter p r) ≡ map f (filter p (cond b (x ∷ r) r))
+        go true r = kept (p x) (filter p r)
         go false r = refl
 
-    pub any-chosen : (t : ℕ → Bool) (xs : List A) → any_to (passed t xs) (length xs) ≡ occupied (keep p (chosen t xs))
+    pub any-chosen : (t : ℕ → Bool) (xs : List A) → any_to (passed t xs) (length xs) ≡ occupied (filter p (chosen t xs))
     unfolding any_to
     any-chosen t [] = refl
     any-chosen t (x ∷ xs) =
@@ -154,18 +155,18 @@ module _ {A : Type 0} where
         ∙ ap (λ (r : Bool). cond (t 0) (p x) false || r) (any-chosen (λ j. t (suc j)) xs)
         ∙ go (t 0) (chosen (λ j. t (suc j)) xs)
       where
-        kept : (y : Bool) (r : List A) → y || occupied r ≡ occupied (add y x r)
+        kept : (y : Bool) (r : List A) → y || occupied r ≡ occupied (cond y (x ∷ r) r)
         kept true r = refl
         kept false r = refl
 
-        go : (b : Bool) (r : List A) → cond b (p x) false || occupied (keep p r) ≡ occupied (keep p (add b x r))
-        go true r = kept (p x) (keep p r)
+        go : (b : Bool) (r : List A) → cond b (p x) false || occupied (filter p r) ≡ occupied (filter p (cond b (x ∷ r) r))
+        go true r = kept (p x) (filter p r)
         go false r = refl
 
 pub offs-chosen : (t : ℕ → Bool) (cs : List Choice) → offs (chosen t cs) ≡ chosen t (offs cs)
 offs-chosen t [] = refl
 offs-chosen t (c ∷ cs) =
-    add-offs (t 0) c (chosen (λ j. t (suc j)) cs) ∙ ap (add (t 0) c.offset) (offs-chosen (λ j. t (suc j)) cs)
+    add-offs (t 0) c (chosen (λ j. t (suc j)) cs) ∙ ap (λ (os : List ℕ). cond (t 0) (c.offset ∷ os) os) (offs-chosen (λ j. t (suc j)) cs)
 
 -- ---- the tables of the bucket i of a line of the clauses os
 

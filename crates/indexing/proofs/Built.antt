@@ -6,6 +6,7 @@ use mathlib.Core.List.{List, [], ◌∷◌}
 use mathlib.Core.Option.{some}
 use Prim.Native.Nat.{ℕ, zero, suc, ◌<◌, ◌-◌}
 use native.Mathlib.Omega.{arith}
+use Rattle.std.proofs.lemmas.Bool.{eq-eqb}
 use lib.Dec.{eqb}
 use lib.ListN.{length, length-map}
 use Rattle.records.specs.Records.{records_of}
@@ -18,7 +19,6 @@ use Rattle.indexing_iter.proofs.CheckLaws.{build-key, offset-known}
 use Rattle.indexing.proofs.Expand.{offs-retag}
 use Rattle.indexing.proofs.Lists.{keep-none}
 use Rattle.indexing.proofs.Pointers.{Closed, NoSwitch, later-none-switch, closed-expand}
-use Rattle.indexing.proofs.Tests.{eqb_same}
 use Rattle.indexing.specs.Build.{Program, program_of, initial, open_at, later_tables, retag, build}
 use Rattle.indexing.specs.Expand.{expand}
 use Rattle.indexing.specs.Lines.{switch, on_demand, line_at, offs, find}
@@ -35,7 +35,7 @@ module _ (P : Program) (c : ℕ) (os : List ℕ) where
 
   pub seed-demand : find c (line_at (seed P c os) 0).tables ≡ some (on_demand c)
   unfolding seed
-  seed-demand = rw (eqb_same c)
+  seed-demand = rw (eq-eqb c c refl)
 
   pub seed-length : length (seed P c os) ≡ 1
   unfolding seed
@@ -58,7 +58,7 @@ module _ (P : Program) (c : ℕ) (os : List ℕ) where
   unfolding build expand seed
   built-is-expanded keyed =
       let none_open : open_at P c (offs (retag P (initial 7 os))) ≡ [] = ap (open_at P c) (offs-retag P (initial 7 os) ∙ offs-initial 7 os) ∙ keyed in
-      rw (none_open, eqb_same c)
+      rw (none_open, eq-eqb c c refl)
 
   pub built-closed : open_at P c os ≡ [] → Closed (build P c os)
   built-closed keyed = rw (built-is-expanded keyed) (closed-expand P (seed P c os) 0 c c (omega (arith, seed-length)) seed-demand seed-closed)

@@ -8,20 +8,19 @@ use mathlib.Core.Option.{Option, none, some}
 use Prim.Native.Nat.{ℕ, zero, suc, ◌+◌, ◌≤◌, ◌<◌, ◌-◌}
 use native.Mathlib.Decide.{ℕ_discrete}
 use native.Mathlib.Omega.{arith}
+use Rattle.std.proofs.lemmas.Bool.{eq-eqb, ne_eqb}
 use lib.ListN.{length, set, length-append, length-set, get_or-append}
 use lib.Seq.{lt-length-set, get_or-set_same, get_or-set_other, get_or-append_seam}
 use Rattle.indexing_iter.specs.Keys.{same}
 use Rattle.indexing_iter.specs.declared.OptArgIndexKey.{OptArgIndexKey as Key}
 use Rattle.indexing.proofs.Linked.{Linked, linked-nil, linked-cons, linked-append}
 use Rattle.indexing.proofs.Tables.{find-swap-other, find-swap-same}
-use Rattle.indexing.proofs.Tests.{eqb_same, eqb-other}
 use Rattle.indexing.specs.Build.{Program, cons_opt, single, cons_line, pointer, after, open_at, new_table, later_table, later_tables, tag_rest}
 use Rattle.indexing.specs.Build.{tag_static, retag, new_line, literals, lists, structures, bucket, bucket_of, lone, buckets, virtual, lines_for}
 use Rattle.indexing.specs.Build.{entries_for, new_lines, new_entries}
 use Rattle.indexing.specs.Expand.{expanded, added, expand}
 use Rattle.indexing.specs.Lines.{Ptr, ext, int, Entry, Table, switch, on_demand, dead, Choice, Line, Index, no_line, line_at, offs, arg_of, find}
 use Rattle.indexing.specs.Lines.{swap}
-use Rattle.indexing.specs.Lists.{add}
 
 -- ---- tags and buckets keep the offsets
 
@@ -32,7 +31,7 @@ single-is false [] o e = let z : ◌≡◌ {A = ℕ} 0 1 = cc in absurd (omega a
 single-is false (x ∷ []) o e = cc
 single-is false (x ∷ (y ∷ os)) o e = let z : ◌≡◌ {A = ℕ} 0 1 = cc in absurd (omega arith)
 
-pub add-offs : (b : Bool) (c : Choice) (cs : List Choice) → offs (add b c cs) ≡ add b c.offset (offs cs)
+pub add-offs : (b : Bool) (c : Choice) (cs : List Choice) → offs (cond b (c ∷ cs) cs) ≡ cond b (c.offset ∷ offs cs) (offs cs)
 add-offs true c cs = refl
 add-offs false c cs = refl
 
@@ -40,7 +39,8 @@ module _ (P : Program) where
   pub offs-bucket : (a : ℕ) (k : Key) (cs : List Choice) → offs (bucket_of P a cs k) ≡ bucket P a (offs cs) k
   offs-bucket a k [] = refl
   offs-bucket a k (c ∷ cs) =
-      add-offs (same (P.key_of c.offset a) k) c (bucket_of P a cs k) ∙ ap (add (same (P.key_of c.offset a) k) c.offset) (offs-bucket a k cs)
+      add-offs (same (P.key_of c.offset a) k) c (bucket_of P a cs k)
+      ∙ ap (λ (os : List ℕ). cond (same (P.key_of c.offset a) k) (c.offset ∷ os) os) (offs-bucket a k cs)
 
   offs-rest : (cs : List Choice) → offs (tag_rest P cs) ≡ offs cs
   offs-rest [] = refl
@@ -210,13 +210,13 @@ module _ (P : Program) where
 
   pass-later : {a : ℕ} {x : Option Table} → Later a x → (b : ℕ) (ts : List Table) → a ≢ b → find b (cons_opt x ts) ≡ find b ts
   pass-later later-none b ts ne = refl
-  pass-later later-demand b ts ne = rw (eqb-other ne)
-  pass-later later-dead b ts ne = rw (eqb-other ne)
+  pass-later later-demand b ts ne = rw (ne_eqb _ _ ne)
+  pass-later later-dead b ts ne = rw (ne_eqb _ _ ne)
 
   meet-later : {b : ℕ} {x : Option Table} → Later b x → (ts : List Table) → find b ts ≡ none → find b (cons_opt x ts) ≡ x
   meet-later later-none ts e = e
-  meet-later {b} later-demand ts e = rw (eqb_same b)
-  meet-later {b} later-dead ts e = rw (eqb_same b)
+  meet-later {b} later-demand ts e = rw (eq-eqb b b refl)
+  meet-later {b} later-dead ts e = rw (eq-eqb b b refl)
 
   pub later-below : (n a b : ℕ) (os : List ℕ) → b < a → find b (later_tables P n a os) ≡ none
   later-below zero a b os h = refl

@@ -8,6 +8,7 @@ use mathlib.Core.Option.{Option, some}
 use Prim.Native.Nat.{ℕ, zero, suc, ◌+◌, ◌≤◌, ◌<◌, ◌-◌}
 use native.Mathlib.Decide.{ℕ_discrete, dec_lt}
 use native.Mathlib.Omega.{arith}
+use Rattle.std.proofs.lemmas.Bool.{eq-eqb, eqb-true, ne_eqb}
 use lib.Dec.{eqb}
 use lib.ListN.{length, drop, set}
 use Rattle.indexing.proofs.Built.{seed-demand, seed-length, seed-switch, built-is-expanded}
@@ -15,7 +16,6 @@ use Rattle.indexing.proofs.Expand.{expanded-arg, Leads, leads-ext, leads-int, op
 use Rattle.indexing.proofs.Expand.{later-demand, later-dead, later-view}
 use Rattle.indexing.proofs.Linked.{linked-left}
 use Rattle.indexing.proofs.Pointers.{Inside, inside-ext, inside-int, Links, Closed, expand-new, longer, links-expand}
-use Rattle.indexing.proofs.Tests.{eqb-true, eqb_same, eqb-other}
 use Rattle.indexing.specs.Build.{Program, cons_opt, open_at, later_tables, new_line, build}
 use Rattle.indexing.specs.Expand.{added, expand, expand_at}
 use Rattle.indexing.specs.Lines.{Ptr, ext, int, Table, on_demand, Choice, Line, Index, line_at, offs, arg_of, find, swap}
@@ -35,7 +35,7 @@ args-swap m n a u [] e r = tt
 args-swap m n a u (t ∷ ts) e r = go (eqb (arg_of t) a) refl (args-swap m (suc (arg_of t)) a u ts e r.2)
   where
     go : (x : Bool) → eqb (arg_of t) a ≡ x → Args m (suc (arg_of t)) (swap a u ts) → Args m n (cond x (u ∷ ts) (t ∷ swap a u ts))
-    go true y ih = rw (e ∙ sym (eqb-true y)) r
+    go true y ih = rw (e ∙ sym (eqb-true _ _ y)) r
     go false y ih = (r.0, r.1, ih)
 
 pub args-later : (P : Program) (n a : ℕ) (os : List ℕ) → a + n ≡ suc P.arity → Args P.arity a (later_tables P n a os)
@@ -53,7 +53,7 @@ find-args m n a t [] r e = let z : ◌≡◌ {A = ℕ} 0 1 = cc in absurd (omega
 find-args m n a t (u ∷ ts) r e = go (eqb (arg_of u) a) refl e (find-args m (suc (arg_of u)) a t ts r.2)
   where
     go : (x : Bool) → eqb (arg_of u) a ≡ x → cond x (some u) (find a ts) ≡ some t → (find a ts ≡ some t → (suc (arg_of u) ≤ a) × (a ≤ m)) → (n ≤ a) × (a ≤ m)
-    go true y f ih = let w : arg_of u ≡ a = eqb-true y in (omega (arith, r.0), omega (arith, r.1))
+    go true y f ih = let w : arg_of u ≡ a = eqb-true _ _ y in (omega (arith, r.0), omega (arith, r.1))
     go false y f ih = let w = ih f in (omega (arith, r.0, w.0), w.1)
 
 -- ---- where the arguments rise, a table expanded at its place is the one for its argument
@@ -66,18 +66,18 @@ args-drop m n (suc i) (t ∷ ts) r = args-weaken m n (suc (arg_of t)) (drop i ts
 set-swap : (m n i : ℕ) (t u : Table) (ts us : List Table) → Args m n ts → drop i ts ≡ t ∷ us → set ts i u ≡ swap (arg_of t) u ts
 set-swap m n zero t u [] us r e = let z : ◌≡◌ {A = ℕ} 0 1 = cc in absurd (omega arith)
 set-swap m n (suc i) t u [] us r e = let z : ◌≡◌ {A = ℕ} 0 1 = cc in absurd (omega arith)
-set-swap m n zero t u (v ∷ ts) us r e = let z : v ≡ t = cc in rw (z, eqb_same (arg_of t))
+set-swap m n zero t u (v ∷ ts) us r e = let z : v ≡ t = cc in rw (z, eq-eqb (arg_of t) _ refl)
 set-swap m n (suc i) t u (v ∷ ts) us r e =
     let l : Args m (suc (arg_of v)) (t ∷ us) = rw e at (args-drop m (suc (arg_of v)) i ts r.2) in
-    rw (eqb-other {m = arg_of v} {n = arg_of t} (omega (arith, l.0))) (ap (λ (ws : List Table). v ∷ ws) (set-swap m (suc (arg_of v)) i t u ts us r.2 e))
+    rw (ne_eqb (arg_of v) (arg_of t) (omega (arith, l.0))) (ap (λ (ws : List Table). v ∷ ws) (set-swap m (suc (arg_of v)) i t u ts us r.2 e))
 
 pub find-drop : (m n i : ℕ) (t : Table) (ts us : List Table) → Args m n ts → drop i ts ≡ t ∷ us → find (arg_of t) ts ≡ some t
 find-drop m n zero t [] us r e = let z : ◌≡◌ {A = ℕ} 0 1 = cc in absurd (omega arith)
 find-drop m n (suc i) t [] us r e = let z : ◌≡◌ {A = ℕ} 0 1 = cc in absurd (omega arith)
-find-drop m n zero t (v ∷ ts) us r e = let z : v ≡ t = cc in rw (z, eqb_same (arg_of t))
+find-drop m n zero t (v ∷ ts) us r e = let z : v ≡ t = cc in rw (z, eq-eqb (arg_of t) _ refl)
 find-drop m n (suc i) t (v ∷ ts) us r e =
     let l : Args m (suc (arg_of v)) (t ∷ us) = rw e at (args-drop m (suc (arg_of v)) i ts r.2) in
-    rw (eqb-other {m = arg_of v} {n = arg_of t} (omega (arith, l.0))) (find-drop m (suc (arg_of v)) i t ts us r.2 e)
+    rw (ne_eqb (arg_of v) (arg_of t) (omega (arith, l.0))) (find-drop m (suc (arg_of v)) i t ts us r.2 e)
 
 drop-set : (i : ℕ) (t u : Table) (ts us : List Table) → drop i ts ≡ t ∷ us → drop i (set ts i u) ≡ u ∷ us
 drop-set zero t u [] us e = let z : ◌≡◌ {A = ℕ} 0 1 = cc in absurd (omega arith)

@@ -7,8 +7,8 @@ use mathlib.Core.List.{List, [], ◌∷◌, ◌++◌}
 use mathlib.Core.Option.{some}
 use Prim.Native.Nat.{ℕ}
 use native.Mathlib.Omega.{arith}
+use Rattle.std.proofs.lemmas.Bool.{eq-eqb, eqb-true, ne_eqb}
 use lib.Dec.{eqb}
-use Rattle.indexing.proofs.Tests.{eqb_same, eqb-true, eqb-other}
 use Rattle.indexing.specs.Expanding.{front}
 use Rattle.indexing.specs.Lines.{Table, arg_of, find, swap}
 
@@ -17,7 +17,7 @@ find-swap-other a b u [] e h = refl
 find-swap-other a b u (t ∷ ts) e h = go (eqb (arg_of t) a) refl (find-swap-other a b u ts e h)
   where
     go : (x : Bool) → eqb (arg_of t) a ≡ x → find b (swap a u ts) ≡ find b ts → find b (cond x (u ∷ ts) (t ∷ swap a u ts)) ≡ find b (t ∷ ts)
-    go true y ih = rw (eqb-other {m = arg_of u} {n = b} (λ z. h (sym z ∙ e)), eqb-other {m = arg_of t} {n = b} (λ z. h (sym z ∙ eqb-true y)))
+    go true y ih = rw (ne_eqb (arg_of u) b (λ z. h (sym z ∙ e)), ne_eqb (arg_of t) b (λ z. h (sym z ∙ eqb-true _ _ y)))
     go false y ih = rw ih
 
 pub find-swap-same : (a : ℕ) (u t : Table) (ts : List Table) → arg_of u ≡ a → find a ts ≡ some t → find a (swap a u ts) ≡ some u
@@ -25,7 +25,7 @@ find-swap-same a u t [] e h = let z : ◌≡◌ {A = ℕ} 0 1 = cc in absurd (om
 find-swap-same a u t (v ∷ ts) e h = go (eqb (arg_of v) a) refl (find-swap-same a u t ts e)
   where
     go : (x : Bool) → eqb (arg_of v) a ≡ x → (find a ts ≡ some t → find a (swap a u ts) ≡ some u) → find a (cond x (u ∷ ts) (v ∷ swap a u ts)) ≡ some u
-    go true y ih = rw (e, eqb_same a)
+    go true y ih = rw (e, eq-eqb a a refl)
     go false y ih = rw y (ih (rw y at h))
 
 -- the tables behind the one for a

@@ -1,13 +1,14 @@
 -- Building: what a switch and a new line are made of (settings, tables, tags, buckets, entries), and the built index (document 01, section 3).
 -- Assumes nothing.
 use Rattle.std.specs.Prelude.{Bool, true, false, cond, List, [], ◌∷◌, ◌++◌, map, ℕ, zero, suc, ◌+◌, ◌-◌, ◌/◌, ◌%◌, ◌^◌, eqb, length}
+use Rattle.std.specs.List.{filter}
 use Rattle.std.proofs.Math.Option.{Option, none, some}
 use Rattle.records.specs.declared.Rec.{Rec}
 use Rattle.indexing_iter.specs.declared.Settings.{Settings}
 use Rattle.indexing_iter.specs.declared.OptArgIndexKey.{OptArgIndexKey as Key}
 use Rattle.indexing_iter.specs.declared.OptArgIndexKey.TheVariants.{List as ListKey}
 use Rattle.indexing_iter.specs.Keys.{group_of, is_open, same}
-use Rattle.indexing.specs.Lists.{keep, distinct}
+use Rattle.indexing.specs.Lists.{distinct}
 use Rattle.indexing.specs.Lines.{Ptr, ext, int, Entry, Table, switch, on_demand, dead, Choice, Line, Index, offs}
 use Rattle.indexing_iter.specs.Clauses as Clauses
 
@@ -80,7 +81,7 @@ initial z (o ∷ os) = record { tag = z; offset = o } ∷ initial z os
 module _ (P : Program) where
   -- section 3: the clauses of os without a key at argument a
   abbrev pub open_at : ℕ → List ℕ → List ℕ
-  open_at a os = keep (λ o. is_open (P.key_of o a)) os
+  open_at a os = filter (λ o. is_open (P.key_of o a)) os
 
   -- section 3: the table for an unmasked argument a in a new line, by the clauses of the line that are open there
   abbrev pub new_table : ℕ → List ℕ → Option Table
@@ -121,23 +122,23 @@ module _ (P : Program) where
 
   -- section 3, the groups of a switch: its literals
   abbrev pub literals : ℕ → List ℕ → List Key
-  literals a os = keep (λ k. eqb 1 (group_of k)) (keys_at a os)
+  literals a os = filter (λ k. eqb 1 (group_of k)) (keys_at a os)
 
   -- section 3, the groups of a switch: its list, always there if dynamic
   abbrev pub lists : ℕ → List ℕ → List Key
-  lists a os = cond P.dynamic (ListKey ∷ []) (keep (λ k. eqb 2 (group_of k)) (keys_at a os))
+  lists a os = cond P.dynamic (ListKey ∷ []) (filter (λ k. eqb 2 (group_of k)) (keys_at a os))
 
   -- section 3, the groups of a switch: its structures
   abbrev pub structures : ℕ → List ℕ → List Key
-  structures a os = keep (λ k. eqb 3 (group_of k)) (keys_at a os)
+  structures a os = filter (λ k. eqb 3 (group_of k)) (keys_at a os)
 
   -- section 3: a key's bucket, as clauses
   abbrev pub bucket : ℕ → List ℕ → Key → List ℕ
-  bucket a os k = keep (λ o. same (P.key_of o a) k) os
+  bucket a os k = filter (λ o. same (P.key_of o a) k) os
 
   -- section 3: a key's bucket, as offsets with tags
   abbrev pub bucket_of : ℕ → List Choice → Key → List Choice
-  bucket_of a cs k = keep (λ c. same (P.key_of c.offset a) k) cs
+  bucket_of a cs k = filter (λ c. same (P.key_of c.offset a) k) cs
 
   -- section 3: the offset of a bucket's external pointer, if it has one
   abbrev pub lone : List ℕ → Option ℕ

@@ -1,7 +1,8 @@
 -- Buckets of numbered items, as two columns hold them: each bucket has the number of the latest of its items, and each item that of the one before it in
 -- its bucket. Items are counted from 1, so that 0 is none. Inner definitions, for contracts of functions that find equal keys by buckets.
 -- Assumes nothing.
-use Rattle.std.specs.Prelude.{◌≡◌, Bool, true, false, cond, List, ℕ, zero, suc, ◌+◌, ◌*◌, ◌%◌, ◌<◌, length, get_or, ⊤}
+use Rattle.std.specs.Prelude.{◌≡◌, Bool, true, false, cond, List, ℕ, zero, suc, ◌+◌, ◌*◌, ◌%◌, ◌<◌, ◌≤◌, length, get_or}
+use Rattle.indexing.specs.Upto.{count_to}
 use Rattle.indexing.specs.declared.key_buckets.Searched.{Searched}
 use Rattle.indexing.specs.declared.key_buckets.Searched.TheVariants.{Found, Nowhere, Open}
 
@@ -25,8 +26,8 @@ pub record Chained (holds : ℕ → ℕ → Bool) (firsts links : List ℕ) (n :
 abbrev pub Cleared : List ℕ → Type 0
 Cleared table = (i : ℕ) → get_or table i 0 ≡ 0
 
--- what the items before item n that bucket b holds tell of a test
+-- what the items before item n that bucket b holds tell of a test: it is left open only behind the latest 32 of them, those from item p on, of which none passes
 abbrev pub Tells : (ℕ → ℕ → Bool) → ℕ → ℕ → (ℕ → Bool) → Searched → Type 0
 Tells holds b n t (Found i) = (i < n) × (holds b i ≡ true) × (t i ≡ true)
 Tells holds b n t Nowhere = (i : ℕ) → i < n → holds b i ≡ true → t i ≡ false
-Tells holds b n t Open = ⊤
+Tells holds b n t Open = (p : ℕ) × (p ≤ n) × (count_to (holds b) n ≡ count_to (holds b) p + 32) × ((i : ℕ) → p ≤ i → i < n → holds b i ≡ true → t i ≡ false)

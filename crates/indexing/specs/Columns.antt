@@ -11,7 +11,8 @@ use Rattle.indexing_iter.specs.declared.OptArgIndexKey.{OptArgIndexKey as Key}
 use Rattle.indexing_iter.specs.declared.Settings.{Settings}
 use Rattle.indexing_iter.specs.Keys.{is_open, bits_of}
 use Rattle.indexing_iter.specs.Rows.{head_of, same_bits}
-use Rattle.indexing.specs.Upto.{bit, count_to, any_to, list_to}
+use Rattle.std.specs.Int.{from_bool}
+use Rattle.indexing.specs.Upto.{count_to, any_to, list_to}
 use Rattle.indexing.specs.Lines.{mode_of}
 use Rattle.indexing.specs.Build.{masked_at}
 
@@ -49,7 +50,7 @@ bits_to K offs a n = list_to (λ j. bits_of (K (get_or offs j 0) a) ∷ []) n
 
 -- the 32 numbers of one clause: 1 where an argument up to the arity has no key
 unfoldable pub open_row : (ℕ → ℕ → Key) → ℕ → ℕ → List ℕ
-open_row K arity o = list_to (λ b. bit (cond (ltb b arity) (is_open (K o (b + 1))) false) ∷ []) 32
+open_row K arity o = list_to (λ b. from_bool (cond (ltb b arity) (is_open (K o (b + 1))) false) ∷ []) 32
 
 unfoldable pub opens_to : (ℕ → ℕ → Key) → ℕ → List ℕ → ℕ → List ℕ
 opens_to K arity offs n = list_to (λ j. open_row K arity (get_or offs j 0)) n

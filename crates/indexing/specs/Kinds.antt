@@ -3,7 +3,7 @@
 use Rattle.std.specs.Prelude.{ℕ, cond, eqb, Result, Ok, Err}
 use Rattle.indexing.specs.declared.kinds.Kind.{Kind}
 use Rattle.indexing.specs.declared.kinds.Kind.TheVariants.{Line, Switch, OnDemand, Dead, Entry, Choice, DeadClause}
-use Rattle.indexing.specs.declared.kinds.UnknownKind.{UnknownKind}
+use Rattle.indexing.specs.declared.kinds.UnknownByte.{UnknownByte}
 
 -- the number that a record of a kind has
 abbrev pub kind_number : Kind → ℕ
@@ -16,7 +16,7 @@ kind_number Choice = 6
 kind_number DeadClause = 7
 
 -- the kind of a number
-abbrev pub kind_in : ℕ → Result Kind UnknownKind
+abbrev pub kind_in : ℕ → Result Kind UnknownByte
 kind_in n =
     cond (eqb n 1) (Ok Line)
     (cond (eqb n 2) (Ok Switch)

@@ -60,7 +60,7 @@ impl<const BUCKETS: usize, const LINKS: usize> Chains<BUCKETS, LINKS> {
             → ((i : ℕ) (b : Bool) → i < n → F.post test i b → b ≡ t i) → Tells holds bucket n t result }
     {
         let mut number = usize::from(self.firsts[bucket]);
-        for _ in 0..32 {
+        for _ in 0..32_u32 {
             if number == 0 {
                 return Searched::Nowhere;
             }

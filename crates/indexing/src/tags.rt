@@ -1,6 +1,8 @@
 // The tags of a line's offsets.
 ghost use Rattle.std.specs.Prelude.{◌≡◌};
-ghost use Rattle.indexing.specs.Tags.{tag_from};
+ghost use Rattle.indexing.specs.Tags.{tag_number, tag_from};
+
+use crate::kinds::UnknownByte;
 
 // How a clause is tried among the clauses of its line: in a static line by its place, by the default forms where choice points are not counted; in a
 // dynamic line A or Z.
@@ -15,17 +17,22 @@ pub enum Tag {
     Z = 7,
 }
 
-// A number that is no tag: the number that was met, for whoever reports it.
-#[derive(Clone, Copy, Debug, PartialEq, Eq)]
-pub struct UnknownTag(pub u8);
+// The byte of a tag. By hand and by `as`: no derive makes a From of an enum.
+impl From<Tag> for u8 {
+    ghost from_gives = { λ tag n. n ≡ tag_number tag };
+
+    fn from(tag: Tag) -> u8 {
+        tag as u8
+    }
+}
 
 // Kind has such an impl too: each enum has its own cases, and an impl by a macro of our own is refused by `rt ci`.
 impl TryFrom<u8> for Tag {
-    type Error = UnknownTag;
+    type Error = UnknownByte;
 
     ghost try_from_gives = { λ n tag. tag ≡ tag_from n };
 
-    fn try_from(n: u8) -> Result<Self, UnknownTag> {
+    fn try_from(n: u8) -> Result<Self, UnknownByte> {
         match n {
             1 => Ok(Tag::Try),
             2 => Ok(Tag::Retry),
@@ -34,7 +41,7 @@ impl TryFrom<u8> for Tag {
             5 => Ok(Tag::DefaultTrust),
             6 => Ok(Tag::A),
             7 => Ok(Tag::Z),
-            _ => Err(UnknownTag(n)),
+            _ => Err(UnknownByte(n)),
         }
     }
 }

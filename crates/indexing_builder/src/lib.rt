@@ -1,15 +1,13 @@
 // The builder, number 9, and the expansion of an on-demand table on the buffer.
 // Port of scryer-prolog's compute_indices (indexing.rs) and indices_of_arg (indexing_scan.rs).
-// Code, starts and settings stand one by one where nothing is checked yet: a Program is what they are afterwards.
+// Code, starts, settings and c stand one by one where nothing is checked yet: a Build is what they are afterwards.
 #![tactic(auto)]
 
 pub mod expansion;
 
 ghost use Rattle.std.specs.Prelude.{◌≡◌, cond, ◌≤◌, length};
 ghost use Rattle.records.specs.Records.{records_of};
-ghost use Rattle.indexing_iter.specs.Refusals.{passed};
 ghost use Rattle.indexing_iter.specs.Classes.{class_of};
-ghost use Rattle.indexing_iter.specs.Checks.{check_build};
 ghost use Rattle.index_writer.specs.Written.{switch_in, seed_by, new_lines_by};
 ghost use Rattle.indexing.specs.Builder.{capacity_of, build_call};
 ghost use Rattle.indexing_builder.specs.Answer.{built_of};
@@ -19,9 +17,9 @@ use crate::expansion::OnDemand;
 use index_writer::clauses::{Clauses, Columns};
 use index_writer::first_line::FirstLine;
 use index_writer::{lines, rooms};
-use indexing_iter::program::Program;
+use indexing_iter::Settings;
+use indexing_iter::program::Build;
 use indexing_iter::refusal::Refusal;
-use indexing_iter::{Settings, checks};
 
 // The index built: its record count and the variable offset.
 #[derive(Clone, Copy, Debug, PartialEq, Eq)]
@@ -74,13 +72,11 @@ fn write_index(index: &mut [u8], whole: &Clauses, columns: &Columns) -> Result<B
 }
 
 // Builds the index of checked code.
-// It asks check_build .. ≡ passed, as FirstLine::fill does: the field of Program and number 8 say it together.
-fn build_checked(program: &Program, c: u32, index: &mut [u8]) -> Result<Built, Refusal>
-    requires { check_build class_of program.now.settings.arity c program.now.code.now program.now.starts.now ≡ passed }
-    ensures { built_of result index.new ≡ build_call class_of program.now.code.now program.now.starts.now program.now.settings c index.old }
+fn build_checked(build: &Build, index: &mut [u8]) -> Result<Built, Refusal>
+    ensures { built_of result index.new ≡ build_call class_of build.now.program.code.now build.now.program.starts.now build.now.program.settings build.now.c index.old }
 {
     let mut first = FirstLine::new();
-    let (whole, columns) = first.fill(program, c);
+    let (whole, columns) = first.fill(build);
     write_index(index, &whole, &columns)
 }
 
@@ -95,12 +91,6 @@ pub fn compute_indices(
 ) -> Result<Built, Refusal>
     ensures { built_of result index.new ≡ build_call class_of code.now starts.now settings c index.old }
 {
-    checks::check_build(code, starts, settings.arity, c)?;
-    let program = Program {
-        code,
-        starts,
-        settings,
-    };
-    // check_build said that c is at most 32: it is a u32.
-    build_checked(&program, c as u32, index)
+    let build = Build::check(code, starts, settings, c)?;
+    build_checked(&build, index)
 }

@@ -72,6 +72,11 @@ pub passed-both : (a b : Checked) → otherwise a b ≡ passed → (a ≡ passed
 passed-both (Ok u) b e = (refl, e)
 passed-both (Err n) b e = let z : ◌≡◌ {A = ℕ} 0 1 = cc in absurd (omega arith)
 
+-- two checks in one, and then the next
+in_turn : (a b k : Checked) → otherwise a (otherwise b k) ≡ otherwise (otherwise a b) k
+in_turn (Ok u) b k = refl
+in_turn (Err e) b k = refl
+
 passed-test : (met : Bool) (e : Refusal) → refuse met e ≡ passed → met ≡ false
 passed-test true x e = let z : ◌≡◌ {A = ℕ} 0 1 = cc in absurd (omega arith)
 passed-test false x e = refl
@@ -183,7 +188,13 @@ module _ (cls : ℕ → ℕ) (arity : ℕ) (code starts : List ℕ) where
       let u = passed-both (check_starts (length code / 16) starts) clauses t.1 in
       (t.0, u.0, u.1)
 
-  pub clauses-of-rising : check_clauses_of cls arity code starts ≡ passed → rising_below (length (records_of code)) starts ≡ true
+  -- 3 and 4, and then 5 to 7
+  pub clauses-after : check_clauses_of cls arity code starts
+      ≡ otherwise (otherwise (check_size code) (check_starts (length code / 16) starts)) (check_clauses cls arity (clauses_of (records_of code) starts))
+  unfolding check_clauses_of
+  clauses-after = in_turn (check_size code) (check_starts (length code / 16) starts) (check_clauses cls arity (clauses_of (records_of code) starts))
+
+  clauses-of-rising : check_clauses_of cls arity code starts ≡ passed → rising_below (length (records_of code)) starts ≡ true
   clauses-of-rising e = rising-passed code starts (clauses-of-passed e).1
 
   -- ---- checked code: 1 and 3 to 7

@@ -25,7 +25,7 @@ use Rattle.indexing_iter.specs.Classes.{arg_of_class, instruction_arg}
 use Rattle.indexing_iter.specs.Keys.{key_in, is_open}
 use Rattle.indexing_iter.specs.Clauses.{end_of, clauses_of}
 use Rattle.indexing_iter.specs.Checks.{otherwise, is_body, has_body, record_bad, register_bad, register_step, check_records, check_clause, check_clauses, open_somewhere}
-use Rattle.indexing_iter.specs.Faults.{first_at, fronts, is_refused, refused_at, open_at, bad_at, body_at, record_for, fault_at}
+use Rattle.indexing_iter.specs.Faults.{first_at, fronts, is_refused, refused_at, open_at, bad_at, body_at, record_for, place_in, fault_at}
 use Rattle.indexing_iter.specs.Places.{body_found, ended_by, passed_through, at_record, open_found, at_clause}
 use Rattle.indexing_iter.proofs.Numbers.{Within, records-number}
 
@@ -280,7 +280,7 @@ refused_step cls arity rs starts (Err e) k rest = Some (fault_at cls arity rs st
 -- the same by a clause's answer with its record
 abbrev pub told_step : List ℕ → Option (Refusal × ℕ) → ℕ → Option Fault → Option Fault
 told_step starts None k rest = rest
-told_step starts (Some (e, i)) k rest = Some (record { refusal = e; clause = k; at = get_or starts k 0 + i })
+told_step starts (Some (e, i)) k rest = Some (record { refusal = e; place = Some (place_in starts k i) })
 
 -- the clauses left of the code rs, the first of them clause k
 pub refused_from : (ℕ → ℕ) → ℕ → List Rec → List ℕ → List (List Rec) → ℕ → Option Fault

@@ -5,6 +5,7 @@ use Rattle.records.specs.declared.Rec.{Rec}
 use Rattle.records.specs.Records.{records_of}
 use Rattle.indexing_iter.specs.declared.refusal.Refusal.{Refusal}
 use Rattle.indexing_iter.specs.declared.Fault.{Fault}
+use Rattle.indexing_iter.specs.declared.Place.{Place}
 use Rattle.indexing_iter.specs.Classes.{instruction_arg}
 use Rattle.indexing_iter.specs.Keys.{key_in, is_open}
 use Rattle.indexing_iter.specs.Clauses.{clauses_of}
@@ -49,13 +50,17 @@ clause_for cls arity c e cs = cond (eqb (refusal_number e) 8) (open_at cls c cs)
 abbrev pub record_for : (ℕ → ℕ) → ℕ → Refusal → List Rec → ℕ
 record_for cls arity e rs = cond (eqb (refusal_number e) 5) (length rs - 1) (cond (eqb (refusal_number e) 8) (body_at cls rs) (bad_at cls arity rs))
 
--- a refusal of which no clause is told
+-- a refusal of which no place is told
 abbrev pub bare : Refusal → Fault
-bare e = record { refusal = e; clause = 0; at = 0 }
+bare e = record { refusal = e; place = None }
 
--- a refusal of clause k, the record counted from the code's start
+-- clause k and its record at i, which is counted from the code's start then
+abbrev pub place_in : List ℕ → ℕ → ℕ → Place
+place_in starts k i = record { clause = k; at = get_or starts k 0 + i }
+
+-- a refusal of clause k
 abbrev pub fault_at : (ℕ → ℕ) → ℕ → List Rec → List ℕ → Refusal → ℕ → Fault
-fault_at cls arity rs starts e k = record { refusal = e; clause = k; at = get_or starts k 0 + record_for cls arity e (get_or (clauses_of rs starts) k []) }
+fault_at cls arity rs starts e k = record { refusal = e; place = Some (place_in starts k (record_for cls arity e (get_or (clauses_of rs starts) k []))) }
 
 -- clause and record are told of 5 to 8
 abbrev pub fault_by : (ℕ → ℕ) → ℕ → ℕ → List Rec → List ℕ → Refusal → Fault

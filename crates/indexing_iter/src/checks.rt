@@ -1,7 +1,7 @@
 // The checks of code, starts and settings, numbers 1 to 8 of document 01's table, the first that applies; and the clause and the record at which 5 to 8 fail.
 // A u32 becomes a usize by `as`: there is no From for it. Each is proved to fit.
 // The loops go by the number of a record: records are sixteen bytes each of a byte buffer, so there is no slice of records to go over.
-// check_code and check_build take code, starts and arity one by one: nothing is checked yet, and a Program is what they are afterwards.
+// check_code and check_build take code, starts and arity one by one: nothing is checked yet, and a Program or a Build is what they are afterwards.
 ghost use Rattle.std.specs.Prelude.{◌≡◌, true, ◌+◌, ◌-◌, ◌≤◌, ◌<◌, length, drop};
 ghost use Rattle.records.specs.Records.{records_of};
 ghost use Rattle.indexing_iter.specs.declared.refusal.Refusal.TheVariants.{NoBody};
@@ -15,7 +15,7 @@ ghost use Rattle.indexing_iter.specs.Places.{body_found, passed_through, at_reco
 use crate::clauses::Clauses;
 use crate::reader::Reader;
 use crate::refusal::Refusal;
-use crate::{Fault, InstructionArg};
+use crate::{Fault, InstructionArg, Place};
 use records::Rec;
 
 // 1: arity outside 1..32.
@@ -86,7 +86,7 @@ fn key_fields_ok(class: u8, r: Rec) -> bool
 }
 
 // 6 of one record. Of a keyed record with sub 0 the fields are read; with 1 to 3 it is a body record; above 3 one of bits 2 to 7 is set.
-// The match on sub is what lets LLVM test it once: the same by `/ 4` and `% 4` misses a speed bar.
+// The match on sub lets LLVM test it once.
 #[tactic(auto, unfolding(crate::specs::Checks::record_bad))]
 pub fn record_bad(class: u8, r: Rec) -> bool
     ensures { result ≡ record_bad class r }
@@ -108,8 +108,8 @@ pub fn register_bad(arity: u32, last: u32, reg: u32) -> bool
     reg == 0 || arity < reg || reg <= last
 }
 
-// The `let .. else` is that of key_by, here and in pass_through: document 01 names the form, and each does another thing at a record.
 // The first body record of a clause, counted from its start.
+// The `let .. else` is that of key_by, here and in pass_through: document 01 names the form, and each does another thing at a record.
 pub fn body_at(clause: &Reader) -> Option<usize>
     ensures { result ≡ body_found (class_by clause.now) (records_of clause.now.code.now) }
 {
@@ -163,8 +163,8 @@ fn no_body(clause: &Reader) -> (Refusal, usize)
     )
 }
 
-// An Option, here and in first_refused: they tell what is at fault, and the definitions at_record and at_clause are Options.
 // 5 to 7 of a clause, its 5 first, and the record at fault.
+// An Option, here and in first_refused: they tell what is at fault, and the definitions at_record and at_clause are Options.
 fn refused_in(clause: &Reader, arity: u32) -> Option<(Refusal, usize)>
     ensures { result ≡ at_record (class_by clause.now) arity (records_of clause.now.code.now) (check_clause (class_by clause.now) arity (records_of clause.now.code.now)) }
 {
@@ -204,10 +204,10 @@ pub fn first_refused(clauses: &Clauses) -> Option<Fault>
     for k in 0..clauses.starts.len() {
         let clause = clauses.clause(k);
         if let Some((refusal, at)) = refused_in(&clause, clauses.arity) {
+            let at = clauses.starts[k] as usize + at;
             return Some(Fault {
                 refusal,
-                clause: k,
-                at: clauses.starts[k] as usize + at,
+                place: Some(Place { clause: k, at }),
             });
         }
     }
@@ -242,13 +242,7 @@ fn open_somewhere(clauses: &Clauses, c: u32) -> bool
 fn check_clauses_of(reader: &Reader, starts: &[u32], arity: u32) -> Result<(), Refusal>
     ensures { result ≡ check_clauses_of (class_by reader.now) arity reader.now.code.now starts.now }
 {
-    check_size(reader.code)?;
-    check_starts(starts, reader.code.len() / 16)?;
-    let clauses = Clauses {
-        reader: *reader,
-        starts,
-        arity,
-    };
+    let clauses = Clauses::check(reader, starts, arity)?;
     check_clauses(&clauses)
 }
 
@@ -274,12 +268,8 @@ pub fn check_build(code: &[u8], starts: &[u32], arity: u32, c: u64) -> Result<()
         table: &crate::classes(),
         code,
     };
-    check_clauses_of(&reader, starts, arity)?;
-    let clauses = Clauses {
-        reader,
-        starts,
-        arity,
-    };
+    let clauses = Clauses::check(&reader, starts, arity)?;
+    check_clauses(&clauses)?;
     // c is at most the arity, checked above: a try_from would have a refusal that cannot come.
     if open_somewhere(&clauses, c as u32) {
         return Err(Refusal::OpenClause);

@@ -6,6 +6,7 @@ ghost use Rattle.indexing_iter.specs.Checks.{rising_below};
 
 use crate::checks;
 use crate::reader::Reader;
+use crate::refusal::Refusal;
 
 // Code, the starts of its clauses, which rise and lie below the code's end, and the arity.
 #[derive(Clone, Copy)]
@@ -16,9 +17,25 @@ pub struct Clauses<'r, 's> {
     pub ghost rising: { rising_below (length (records_of reader.code.now)) starts.now ≡ true },
 }
 
-impl<'r> Clauses<'r, '_> {
-    ghost use Rattle.std.specs.Prelude.{◌+◌, ◌≤◌, ◌<◌, get_or, []};
+impl<'r, 's> Clauses<'r, 's> {
+    ghost use Rattle.std.specs.Prelude.{◌+◌, ◌/◌, ◌≤◌, ◌<◌, get_or, [], IfOk};
     ghost use Rattle.indexing_iter.specs.Clauses.{clauses_of};
+    ghost use Rattle.indexing_iter.specs.Checks.{otherwise, check_size, check_starts};
+    ghost use Rattle.indexing_iter.specs.Programs.{checked_of};
+
+    // Code with its starts and arity, where 3 and 4 do not apply.
+    pub fn check(reader: &Reader<'r>, starts: &'s [u32], arity: u32) -> Result<Self, Refusal>
+        ensures value { checked_of result ≡ otherwise (check_size reader.now.code.now) (check_starts (length reader.now.code.now / 16) starts.now) }
+        ensures made { IfOk result (λ c. (c.reader ≡ reader.now) × (c.starts.now ≡ starts.now) × (c.arity ≡ arity)) }
+    {
+        checks::check_size(reader.code)?;
+        checks::check_starts(starts, records::capacity(reader.code))?;
+        Ok(Clauses {
+            reader: *reader,
+            starts,
+            arity,
+        })
+    }
 
     // The code of clause i, with the table by which it is read.
     pub fn clause(&self, i: usize) -> Reader<'r>

@@ -1,8 +1,8 @@
-// The groups of a switch's entries, in their order.
+// The groups of a switch's entries, with their numbers. No order is derived of them: who compares groups compares the numbers, as well_formed's steps do.
 ghost use Rattle.std.specs.Prelude.{◌≡◌};
 ghost use Rattle.indexing_iter.specs.Groups.{group_number};
 
-#[derive(Clone, Copy, Debug, PartialEq, Eq, PartialOrd, Ord)]
+#[derive(Clone, Copy, Debug, PartialEq, Eq)]
 pub enum Group {
     Literals = 1,
     List = 2,

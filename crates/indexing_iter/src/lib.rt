@@ -49,13 +49,18 @@ pub enum InstructionArg {
     Prologue,
 }
 
-// What refuses code, and where: the refusal, and the clause and the record of the code first at fault, both counted from 0; 0 where no clause
-// is at fault. These are numbers and no Option: the definition `bare`, of which fault_of is made, has 0 there, and the C interface lays them as they are.
+// The clause and the record of the code first at fault, both counted from 0.
+#[derive(Clone, Copy, Debug, PartialEq, Eq)]
+pub struct Place {
+    pub clause: usize,
+    pub at: usize,
+}
+
+// What refuses code, and where: the refusal, and with 5 to 8 the place; code and starts that are refused as a whole have none.
 #[derive(Clone, Copy, Debug, PartialEq, Eq)]
 pub struct Fault {
     pub refusal: Refusal,
-    pub clause: usize,
-    pub at: usize,
+    pub place: Option<Place>,
 }
 
 // The settings of a predicate, passed by value on each call.
@@ -97,7 +102,8 @@ pub fn class_in(table: &[u8], op: u8) -> u8
     table[usize::from(op)]
 }
 
-// A key's sort: 1 atom, 2 integer, 3 float, 4 structure, 5 list, 0 none. It is the number that stands in a record's sub, where any byte may stand, and so no enum.
+// A key's sort: 1 atom, 2 integer, 3 float, 4 structure, 5 list, 0 none. In calls and entries it stands in a record's sub, in code a literal's stands in half
+// (document 01, section 2; see key_of_class): any number of half may stand there, and so it is a u16 and no enum.
 pub fn sort_of(k: OptArgIndexKey) -> u16
     ensures { result ≡ sort_of k }
 {
@@ -158,8 +164,8 @@ pub fn head_of(k: OptArgIndexKey) -> u32
     head_by(sort_of(k), arity_of(k))
 }
 
-// Head and bits are no struct: they are numbers of two columns, or parts of a record, and stand together in a call alone.
 // Whether two keys, each by its two numbers, are equal. Wherever keys stand as numbers they are compared by this function.
+// Head and bits are no struct: the public functions same_bits and bucket_of take them as two numbers.
 pub fn same_bits(head: u32, bits: u64, head2: u32, bits2: u64) -> bool
     ensures { result ≡ same_bits head bits head2 bits2 }
 {
@@ -185,7 +191,8 @@ fn key_of_class(class: u8, r: Rec) -> OptArgIndexKey
 }
 
 // What a record of a class, a number (see CLASS), says of an argument.
-// The range is tested behind `if`: with the pattern `3..=6 if ..` LLVM tests class and sub of a record twice in the checks, which misses a speed bar.
+// The range is tested behind `if`: with the pattern `3..=6 if ..` LLVM tests class and sub of a record twice in the checks, and a later call took 1 to 4 %
+// more instructions.
 #[tactic(auto, unfolding(crate::specs::Classes::arg_of_class))]
 pub fn arg_of_class(class: u8, r: Rec) -> InstructionArg
     ensures { result ≡ arg_of_class class r }
@@ -244,9 +251,9 @@ pub fn key_in(code: &[u8], start: usize, end: usize, j: u32) -> OptArgIndexKey
     key_by(&clause, j)
 }
 
-// That an offset is known is asked of key_of and collect_opt_arg_index_keys, and of who calls them: it is one of many numbers, another in each call.
 // The key at argument j of the clause at a known offset of checked code, read through a view of the clause. A checked
 // clause has a body record, so reading from its start stops before the next clause.
+// That an offset is known is asked of key_of and collect_opt_arg_index_keys, and of who calls them: it is one of many numbers, another in each call.
 pub fn key_of(program: &Program, offset: u32, j: u32) -> OptArgIndexKey
     requires { known program.now.starts.now offset ≡ true }
     ensures { result ≡ keys_by program.now offset j }

@@ -7,6 +7,7 @@ use mathlib.Core.Option.{Option, none, some}
 use Prim.Native.Nat.{ℕ, zero, suc, ◌≤◌, ◌<◌, ◌-◌}
 use native.Mathlib.Decide.{ℕ_discrete}
 use native.Mathlib.Omega.{arith}
+use Rattle.std.proofs.lemmas.Bool.{and_parts, both_ways, true≢false}
 use lib.ListN.{length}
 use Rattle.indexing_iter.specs.Keys.{is_open}
 use Rattle.indexing_iter.specs.declared.OptArgIndexKey.{OptArgIndexKey as Key}
@@ -14,7 +15,6 @@ use Rattle.indexing.proofs.Expand.{opens, outcome, length-expand, same-choices, 
 use Rattle.indexing.proofs.Grown.{Grown, grown-same, grown-more, grown-trans}
 use Rattle.indexing.proofs.Pointers.{Closed, closed-expand}
 use Rattle.indexing.proofs.Size.{extra, size-expand}
-use Rattle.indexing.proofs.Tests.{bool-absurd, and-true}
 use Rattle.indexing.specs.Build.{Program}
 use Rattle.indexing.specs.Expand.{expanded, expand, State}
 use Rattle.indexing.specs.Lines.{Table, switch, on_demand, dead, Index, line_at, find, size}
@@ -46,7 +46,7 @@ module _ (P : Program) (cap : ℕ) where
   stays grown-same l a h e = refl
   stays (grown-more {idx = idx} k b c hk d f g) l a h e =
       let s : find a (line_at (expand P idx k b) l).tables ≡ find a (line_at idx l).tables =
-      same-table P idx k b hk l a h (λ x. bool-absurd {b = is_on_demand (find a (line_at idx l).tables)} (rw (x.0, x.1, d)) e) in
+      same-table P idx k b hk l a h (λ x. absurd (both_ways (is_on_demand (find a (line_at idx l).tables)) e (rw (x.0, x.1, d)))) in
       stays g l a (omega (arith, length-expand P idx k b)) (rw s e) ∙ s
 
   -- a table stays a table
@@ -91,7 +91,7 @@ module _ (P : Program) (cap : ℕ) where
   pub same_move : (idx idx' : Index) (p : Place) (a : ℕ) (q : Key) (t : Option Table) → is_on_demand t ≡ false → move_on P idx' p a q t ≡ move_on P idx p a q t
   same_move idx idx' p a q none e = refl
   same_move idx idx' p a q (some (switch b es)) e = refl
-  same_move idx idx' p a q (some (on_demand b)) e = bool-absurd refl e
+  same_move idx idx' p a q (some (on_demand b)) e = absurd (true≢false e)
   same_move idx idx' p a q (some (dead b os)) e = refl
 
   pub later-due : {idx idx' : Index} → Grown P cap idx idx' → (l a : ℕ) (q : Key) → l < length idx → due idx l a q ≡ false
@@ -195,6 +195,6 @@ module _ (P : Program) (cap : ℕ) where
             (ih (expand P idx l a) (closed-expand P idx l a c h d z))
         go t (refuses {c = c} w d f) gt ih =
             let fl = full (rw (rest-off n a idx (line l)) at gt) l a c h d f in
-            let wl : due last l a (Q a) ≡ true = rw (fl.0, (and-true (not (is_open (Q a))) (is_on_demand (find a (line_at idx l).tables)) w).0) in
+            let wl : due last l a (Q a) ≡ true = rw (fl.0, (and_parts (not (is_open (Q a))) (is_on_demand (find a (line_at idx l).tables)) w).0) in
             ap (λ (x : Result). x.left) (step P cap Q n a e (record { storing = false; index = last }) (line l) (settle-full P cap last l a (Q a) wl fl.1))
             ∙ rest-off n a last (line l)

@@ -1,16 +1,16 @@
 -- The choice in a switch: two lists of entries with the same keys, whose pointers are related, choose related pointers in the same way.
 -- Assumes nothing.
 use mathlib.Core.Bool.{Bool, true, false, cond}
-use mathlib.Core.List.{List}
+use mathlib.Core.List.{List, ◌∷◌}
 use mathlib.Core.Option.{Option, none, some}
 use Prim.Native.Nat.{ℕ}
+use Rattle.std.specs.List.{filter}
 use lib.Dec.{eqb}
 use Rattle.indexing_iter.specs.Keys.{group_of, same}
 use Rattle.indexing_iter.specs.declared.OptArgIndexKey.{OptArgIndexKey as Key}
 use Rattle.indexing.proofs.Linked.{Linked, linked-nil, linked-cons}
 use Rattle.indexing.specs.Build.{Program}
 use Rattle.indexing.specs.Lines.{Entry}
-use Rattle.indexing.specs.Lists.{add, keep}
 use Rattle.indexing_scan.specs.Walk.{Chosen, equal, marked, pick, choose}
 
 module _ {X Y : Type 0} (D : X → Y → Type 0) where
@@ -28,11 +28,11 @@ module _ {X Y : Type 0} (D : X → Y → Type 0) where
   marked-ways h (both_some d) = ways-some d
 
   add-linked : (b : Bool) (k : Key) {x : X} {y : Y} {es : List (Entry X)} {fs : List (Entry Y)} → D x y → Linked D es fs
-      → Linked D (add b (record { key = k; to = x }) es) (add b (record { key = k; to = y }) fs)
+      → Linked D (cond b (record { key = k; to = x } ∷ es) es) (cond b (record { key = k; to = y } ∷ fs) fs)
   add-linked true k d l = linked-cons d l
   add-linked false k d l = l
 
-  keep-linked : (p : Key → Bool) {es : List (Entry X)} {fs : List (Entry Y)} → Linked D es fs → Linked D (keep (λ e. p e.key) es) (keep (λ e. p e.key) fs)
+  keep-linked : (p : Key → Bool) {es : List (Entry X)} {fs : List (Entry Y)} → Linked D es fs → Linked D (filter (λ e. p e.key) es) (filter (λ e. p e.key) fs)
   keep-linked p linked-nil = linked-nil
   keep-linked p (linked-cons {k = k} d l) = add-linked (p k) k d (keep-linked p l)
 

@@ -8,6 +8,8 @@ use Prim.Native.Nat.{ℕ, suc, ◌+◌, ◌-◌, ◌%◌, ◌≤◌, ◌<◌}
 use native.Mathlib.Nat.{not-suc-le-zero}
 use native.Mathlib.Numerals.{add-one}
 use native.Mathlib.Omega.{arith}
+use Rattle.std.specs.List.{filter, AllByRecursion}
+use Rattle.std.proofs.lemmas.List.Elements.{filter_agree}
 use lib.Dec.{eqb, leb, ltb}
 use lib.ListN.{length, get_or}
 use borrow.Author.Tests.{eqb-false, ne_eqb, ltb-true, ltb-false, le-leb, lt-leb}
@@ -16,14 +18,13 @@ use Rattle.records.specs.Records.{zero_rec}
 use Rattle.records.specs.Pointer.{is_internal, distance_of}
 use Rattle.indexing_iter.specs.declared.OptArgIndexKey.{OptArgIndexKey as Key}
 use Rattle.indexing_iter.specs.Keys.{group_of, same}
-use Rattle.indexing.proofs.Lists.{All}
 use Rattle.indexing.proofs.Reading.{FitEntry, key_back, pointer_back}
 use Rattle.indexing.specs.Build.{Program}
 use Rattle.indexing.specs.Lines.{Ptr, ext, int, Entry, entry_rec}
-use Rattle.indexing.specs.Lists.{add, keep}
 use Rattle.indexing.specs.Reading.{pointer_from, entry_from}
 use Rattle.well_formed.proofs.PassParts.{group-sort}
 use Rattle.well_formed.specs.Pass.{group_by_sort}
+use Rattle.indexing_scan.proofs.KeptLaws.{keep-map}
 use Rattle.indexing_scan.specs.Walk.{equal, marked, pick, choose}
 use Rattle.indexing_scan.specs.declared.stored.Chosen.TheVariants.{Nothing, Only, Equal}
 use Rattle.indexing_scan.specs.Places.{up_to, count_of, key_of_rec, in_group, has_key, equal_rec, pick_rec, choose_rec, choice_of}
@@ -31,34 +32,34 @@ use Rattle.indexing_scan.specs.Places.{up_to, count_of, key_of_rec, in_group, ha
 -- ---- what is counted and what is searched for
 
 module _ (t : Rec → Bool) where
-  none_kept : (rs : List Rec) → count_of t rs ≡ 0 → keep t rs ≡ []
+  none_kept : (rs : List Rec) → count_of t rs ≡ 0 → filter t rs ≡ []
   unfolding count_of
   none_kept [] e = refl
   none_kept (r ∷ rs) e = go (t r) e (none_kept rs)
     where
-      go : (b : Bool) → cond b (count_of t rs + 1) (count_of t rs) ≡ 0 → (count_of t rs ≡ 0 → keep t rs ≡ []) → add b r (keep t rs) ≡ []
+      go : (b : Bool) → cond b (count_of t rs + 1) (count_of t rs) ≡ 0 → (count_of t rs ≡ 0 → filter t rs ≡ []) → cond b (r ∷ filter t rs) (filter t rs) ≡ []
       go true e ih = absurd (omega arith)
       go false e ih = ih e
 
-  one_kept : (rs : List Rec) → count_of t rs ≡ 1 → (up_to t rs < length rs) × (keep t rs ≡ get_or rs (up_to t rs) zero_rec ∷ [])
+  one_kept : (rs : List Rec) → count_of t rs ≡ 1 → (up_to t rs < length rs) × (filter t rs ≡ get_or rs (up_to t rs) zero_rec ∷ [])
   unfolding count_of up_to
   one_kept [] e = absurd (omega arith)
   one_kept (r ∷ rs) e = go (t r) e (one_kept rs)
     where
       go : (b : Bool) → cond b (count_of t rs + 1) (count_of t rs) ≡ 1
-          → (count_of t rs ≡ 1 → (up_to t rs < length rs) × (keep t rs ≡ get_or rs (up_to t rs) zero_rec ∷ []))
-          → (cond b 0 (up_to t rs + 1) < suc (length rs)) × (add b r (keep t rs) ≡ get_or (r ∷ rs) (cond b 0 (up_to t rs + 1)) zero_rec ∷ [])
+          → (count_of t rs ≡ 1 → (up_to t rs < length rs) × (filter t rs ≡ get_or rs (up_to t rs) zero_rec ∷ []))
+          → (cond b 0 (up_to t rs + 1) < suc (length rs)) × (cond b (r ∷ filter t rs) (filter t rs) ≡ get_or (r ∷ rs) (cond b 0 (up_to t rs + 1)) zero_rec ∷ [])
       go true e ih = (omega arith, ap (λ (l : List Rec). r ∷ l) (none_kept rs (omega arith)))
       go false e ih =
           let w = ih e in
           (omega (arith, w.0), w.1 ∙ ap (λ (k : ℕ). get_or (r ∷ rs) k zero_rec ∷ []) (sym (add-one (up_to t rs))))
 
-  length-kept : (rs : List Rec) → length (keep t rs) ≡ count_of t rs
+  length-kept : (rs : List Rec) → length (filter t rs) ≡ count_of t rs
   unfolding count_of
   length-kept [] = refl
   length-kept (r ∷ rs) = go (t r) (length-kept rs)
     where
-      go : (b : Bool) → length (keep t rs) ≡ count_of t rs → length (add b r (keep t rs)) ≡ cond b (count_of t rs + 1) (count_of t rs)
+      go : (b : Bool) → length (filter t rs) ≡ count_of t rs → length (cond b (r ∷ filter t rs) (filter t rs)) ≡ cond b (count_of t rs + 1) (count_of t rs)
       go true e = omega arith
       go false e = e
 
@@ -70,13 +71,14 @@ module _ (q : Key) where
       let n : group_of (key_of_rec r) ≡ group_of q → ⊥ = λ z. eqb-false (group_of q) (group_by_sort r.sub) e (sym z ∙ group-sort r.sub r.half r.long) in
       rw (ne_eqb (group_of (key_of_rec r)) (group_of q) n)
 
-  equal-kept : (rs : List Rec) → equal_rec q (keep (in_group (group_of q)) rs) ≡ equal_rec q rs
+  equal-kept : (rs : List Rec) → equal_rec q (filter (in_group (group_of q)) rs) ≡ equal_rec q rs
   unfolding equal_rec
   equal-kept [] = refl
   equal-kept (r ∷ rs) = go (in_group (group_of q) r) refl (equal-kept rs)
     where
-      go : (b : Bool) → in_group (group_of q) r ≡ b → equal_rec q (keep (in_group (group_of q)) rs) ≡ equal_rec q rs
-          → equal_rec q (add b r (keep (in_group (group_of q)) rs)) ≡ cond (has_key q r) (Equal r.word) (equal_rec q rs)
+      go : (b : Bool) → in_group (group_of q) r ≡ b → equal_rec q (filter (in_group (group_of q)) rs) ≡ equal_rec q rs
+          → equal_rec q (cond b (r ∷ filter (in_group (group_of q)) rs) (filter (in_group (group_of q)) rs))
+          ≡ cond (has_key q r) (Equal r.word) (equal_rec q rs)
       go true e ih = rw ih
       go false e ih = rw (equal-group r e) ih
 
@@ -122,7 +124,7 @@ module _ (q : Key) where
   choose-many : (rs : List Rec) → 2 ≤ count_of (in_group (group_of q)) rs → equal_rec q rs ≡ choose_rec q rs
   unfolding choose_rec
   choose-many rs h =
-      sym (equal-kept rs) ∙ pick-many (keep (in_group (group_of q)) rs) (omega (arith, length-kept (in_group (group_of q)) rs))
+      sym (equal-kept rs) ∙ pick-many (filter (in_group (group_of q)) rs) (omega (arith, length-kept (in_group (group_of q)) rs))
 
 -- the ways out of the choice among some records, of which so many are of the key's group
 module _ (q : Key) (rs : List Rec) (g count : ℕ) (e : g ≡ group_of q) (n : count ≡ count_of (in_group g) rs) where
@@ -153,15 +155,13 @@ module _ (q : Key) (rs : List Rec) (g count : ℕ) (e : g ≡ group_of q) (n : c
 
 -- ---- the walk's choice
 
-entries-kept : (q : Key) (rs : List Rec) → keep (λ (e : Entry Ptr). eqb (group_of q) (group_of e.key)) (map entry_from rs) ≡ map entry_from (keep (in_group (group_of q)) rs)
+entries-kept : (q : Key) (rs : List Rec)
+    → filter (λ (e : Entry Ptr). eqb (group_of q) (group_of e.key)) (map entry_from rs) ≡ map entry_from (filter (in_group (group_of q)) rs)
 unfolding in_group
-entries-kept q [] = refl
-entries-kept q (r ∷ rs) =
-    rw (group-sort r.sub r.half r.long, entries-kept q rs) (go (eqb (group_of q) (group_by_sort r.sub)))
-  where
-    go : (b : Bool) → add b (entry_from r) (map entry_from (keep (in_group (group_of q)) rs)) ≡ map entry_from (add b r (keep (in_group (group_of q)) rs))
-    go true = refl
-    go false = refl
+entries-kept q rs =
+    keep-map (λ (e : Entry Ptr). eqb (group_of q) (group_of e.key)) entry_from rs
+    ∙ ap (map entry_from) (filter_agree (λ r. eqb (group_of q) (group_of (entry_from r).key)) (in_group (group_of q))
+    (λ r. ap (eqb (group_of q)) (group-sort r.sub r.half r.long)) rs)
 
 equal-records : (q : Key) (rs : List Rec) → choice_of (equal_rec q rs) ≡ marked 5 (equal q (map entry_from rs))
 unfolding equal_rec has_key
@@ -182,10 +182,10 @@ pick-records P q (r ∷ (s ∷ rs)) = equal-records q (r ∷ (s ∷ rs))
 -- the choice over records is the choice among the entries that they stand for
 pub choose-records : (P : Program) (q : Key) (rs : List Rec) → choice_of (choose_rec q rs) ≡ choose P q (map entry_from rs)
 unfolding choose_rec
-choose-records P q rs = pick-records P q (keep (in_group (group_of q)) rs) ∙ ap (pick P q) (sym (entries-kept q rs))
+choose-records P q rs = pick-records P q (filter (in_group (group_of q)) rs) ∙ ap (pick P q) (sym (entries-kept q rs))
 
 -- entries that fit their records are read back
-entries-back : (es : List (Entry Ptr)) → All FitEntry es → map entry_from (map entry_rec es) ≡ es
+entries-back : (es : List (Entry Ptr)) → AllByRecursion FitEntry es → map entry_from (map entry_rec es) ≡ es
 entries-back [] f = refl
 entries-back (e ∷ es) f =
     ap₂ (λ (x : Entry Ptr) (xs : List (Entry Ptr)). x ∷ xs)
@@ -193,7 +193,7 @@ entries-back (e ∷ es) f =
     (entries-back es f.1)
 
 -- the choice over the records of entries is the choice among these
-pub choose-entries : (P : Program) (q : Key) (es : List (Entry Ptr)) (rs : List Rec) → All FitEntry es → rs ≡ map entry_rec es → choice_of (choose_rec q rs) ≡ choose P q es
+pub choose-entries : (P : Program) (q : Key) (es : List (Entry Ptr)) (rs : List Rec) → AllByRecursion FitEntry es → rs ≡ map entry_rec es → choice_of (choose_rec q rs) ≡ choose P q es
 choose-entries P q es rs f e = choose-records P q rs ∙ ap (choose P q) (ap (map entry_from) e ∙ entries-back es f)
 
 -- a pointer taken apart by its tag and distance

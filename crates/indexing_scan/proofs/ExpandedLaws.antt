@@ -5,15 +5,16 @@ use mathlib.Core.List.{List, [], ◌∷◌, ◌++◌, append_assoc}
 use mathlib.Core.Option.{some}
 use Prim.Native.Nat.{ℕ, suc, ◌+◌, ◌≤◌, ◌<◌}
 use native.Mathlib.Omega.{arith}
+use Rattle.std.proofs.lemmas.Bool.{eq-eqb, ne_eqb}
+use Rattle.std.specs.List.{AllByRecursion}
+use Rattle.std.proofs.lemmas.List.Elements.{All-from_recursion}
 use lib.ListN.{length, take, drop, set, length-set, length-append}
 use lib.Seq.{length-take-le, take-append-le, take-set-le, drop-append_seam, split_at}
 use Rattle.records.specs.declared.Rec.{Rec}
-use Rattle.indexing.proofs.Lists.{All, all_in}
 use Rattle.indexing.proofs.Expand.{opens, outcome, grown, expand-is, length-expand, at-line as line-expanded}
 use Rattle.indexing.proofs.Order.{Args}
 use Rattle.indexing.proofs.Records.{tables-append, records-append, before}
 use Rattle.indexing.proofs.Reading.{FitTable, FitLine}
-use Rattle.indexing.proofs.Tests.{eqb_same, eqb-other}
 use Rattle.indexing.specs.Build.{Program}
 use Rattle.indexing.specs.Expand.{added, expand}
 use Rattle.indexing.specs.Expanding.{front}
@@ -24,7 +25,7 @@ use Rattle.indexing_scan.proofs.PlaceLaws.{left, left-length}
 
 -- ---- the place of a table, and what is left as it was by an expansion there
 
-all-later : {A : Type 0} (Φ : A → Type 0) (xs : List A) (y : A) (ys : List A) → All Φ (xs ++ (y ∷ ys)) → Φ y
+all-later : {A : Type 0} (Φ : A → Type 0) (xs : List A) (y : A) (ys : List A) → AllByRecursion Φ (xs ++ (y ∷ ys)) → Φ y
 all-later Φ [] y ys f = f.0
 all-later Φ (x ∷ xs) y ys f = all-later Φ xs y ys f.1
 
@@ -35,19 +36,19 @@ module _ (M : ℕ) (t : Table) (ts : List Table) where
   args-behind n (u ∷ us) r = omega (arith, r.0, args-behind (suc (arg_of u)) us r.2)
 
   find-behind : (n : ℕ) (us : List Table) → Args M n (us ++ (t ∷ ts)) → find (arg_of t) (us ++ (t ∷ ts)) ≡ some t
-  find-behind n [] r = rw (eqb_same (arg_of t))
+  find-behind n [] r = rw (eq-eqb (arg_of t) _ refl)
   find-behind n (u ∷ us) r =
-      rw (eqb-other {m = arg_of u} {n = arg_of t} (omega (arith, args-behind (suc (arg_of u)) us r.2))) (find-behind (suc (arg_of u)) us r.2)
+      rw (ne_eqb (arg_of u) (arg_of t) (omega (arith, args-behind (suc (arg_of u)) us r.2))) (find-behind (suc (arg_of u)) us r.2)
 
   swap-behind : (v : Table) (n : ℕ) (us : List Table) → Args M n (us ++ (t ∷ ts)) → swap (arg_of t) v (us ++ (t ∷ ts)) ≡ us ++ (v ∷ ts)
-  swap-behind v n [] r = rw (eqb_same (arg_of t))
+  swap-behind v n [] r = rw (eq-eqb (arg_of t) _ refl)
   swap-behind v n (u ∷ us) r =
-      rw (eqb-other {m = arg_of u} {n = arg_of t} (omega (arith, args-behind (suc (arg_of u)) us r.2))) (ap (λ (x : List Table). u ∷ x) (swap-behind v (suc (arg_of u)) us r.2))
+      rw (ne_eqb (arg_of u) (arg_of t) (omega (arith, args-behind (suc (arg_of u)) us r.2))) (ap (λ (x : List Table). u ∷ x) (swap-behind v (suc (arg_of u)) us r.2))
 
   front-behind : (n : ℕ) (us : List Table) → Args M n (us ++ (t ∷ ts)) → front (arg_of t) (us ++ (t ∷ ts)) ≡ us
-  front-behind n [] r = rw (eqb_same (arg_of t))
+  front-behind n [] r = rw (eq-eqb (arg_of t) _ refl)
   front-behind n (u ∷ us) r =
-      rw (eqb-other {m = arg_of u} {n = arg_of t} (omega (arith, args-behind (suc (arg_of u)) us r.2))) (ap (λ (x : List Table). u ∷ x) (front-behind (suc (arg_of u)) us r.2))
+      rw (ne_eqb (arg_of u) (arg_of t) (omega (arith, args-behind (suc (arg_of u)) us r.2))) (ap (λ (x : List Table). u ∷ x) (front-behind (suc (arg_of u)) us r.2))
 
 -- the records of the lines before l, of line l and of its tables us
 abbrev pub fore : ℕ → Index → ℕ → List Table → List Rec
@@ -90,10 +91,10 @@ module _ {m : ℕ} {idx : Index} {rs : List Rec} (is : rs ≡ records m 0 idx) w
 
 module _ {m : ℕ} {idx : Index} {rs : List Rec} {l : ℕ} {t : Table} {ts : List Table} {p : ℕ} (at : At m idx rs l (t ∷ ts) p) where
   -- the first table left fits its records if all tables do
-  pub at-fits : All FitLine idx → FitTable t
+  pub at-fits : AllByRecursion FitLine idx → FitTable t
   at-fits f =
       all-later FitTable at.passed t ts
-      (subst (All FitTable) (sym at.tables) (all_in FitLine idx l no_line f at.line))
+      (subst (AllByRecursion FitTable) (sym at.tables) (All-from_recursion FitLine idx f l no_line at.line))
 
   module _ (M : ℕ) (rises : Args M 1 (line_at idx l).tables) where
     risen : Args M 1 (at.passed ++ (t ∷ ts))

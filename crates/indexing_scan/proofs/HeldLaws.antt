@@ -1,27 +1,26 @@
 -- The list of clauses in place: what the loops over it leave, a bucket at its front, and what stands in it then.
 -- Assumes nothing.
 use mathlib.Core.Path.{◌≡◌, refl, sym, ap, ap₂, ◌∙◌}
-use mathlib.Core.Bool.{Bool, true, false, cond, ◌&&◌, ◌||◌}
+use mathlib.Core.Bool.{Bool, true, false, cond, ◌&&◌}
 use mathlib.Core.List.{List, [], ◌∷◌, ◌++◌, append-nil}
 use Prim.Native.Nat.{ℕ, zero, suc, ◌+◌, ◌≤◌, ◌<◌}
 use native.Mathlib.Omega.{arith}
+use Rattle.std.proofs.lemmas.Bool.{eqb-true, ne_eqb}
+use Rattle.std.proofs.lemmas.List.Elements.{filter_more}
+use Rattle.std.proofs.lemmas.List.Sums.{AllPass-from_list_all, count_by-le-length, length-filter}
 use lib.Dec.{eqb}
 use lib.ListN.{length, take, drop, get_or, set, length-append}
-use lib.Seq.{take-suc, drop-cons, append_snoc, get_or-take, set_at, take_at}
+use lib.Seq.{drop-cons, append_snoc, get_or-take, set_at, take_at}
 use native.Mathlib.Numerals.{add-one}
-use borrow.Author.Tests.{eqb-true, ne_eqb}
 use Rattle.std.proofs.lemmas.List.{take_all}
-use Rattle.std.specs.List.{list_any, list_all}
+use Rattle.std.specs.List.{filter, list_all}
 use Rattle.indexing_iter.specs.declared.OptArgIndexKey.{OptArgIndexKey as Key}
-use Rattle.indexing_iter.specs.Keys.{group_of, is_open, same}
+use Rattle.indexing_iter.specs.Keys.{group_of}
 use Rattle.indexing_iter.specs.Clauses.{known}
-use Rattle.indexing.specs.Lists.{add, keep, every}
 use Rattle.indexing.specs.Build.{single}
-use Rattle.indexing.proofs.BridgeLists.{keep_append}
 use Rattle.indexing.proofs.Lists.{every-keep}
-use Rattle.indexing.proofs.Tests.{and-true}
 use Rattle.indexing_scan.specs.Walk.{stop, goto, unstored, enter}
-use Rattle.indexing_scan.specs.Unstored.{step_number, move_of, Held, alike, like_to, all_same, any_open, entered_by, empty_by}
+use Rattle.indexing_scan.specs.Unstored.{step_number, move_of, Held, alike, like_to, entered_by, empty_by}
 use Rattle.indexing_scan.specs.declared.unstored.Step.{Step}
 use Rattle.indexing_scan.specs.declared.unstored.Step.TheVariants.{Only}
 use Rattle.indexing_scan.specs.declared.unstored.Narrowed.TheVariants.{Failed, Single, Bucket}
@@ -30,19 +29,15 @@ use Rattle.indexing_scan.specs.declared.unstored.Narrowed.TheVariants.{Failed, S
 
 module _ (t : ℕ → Bool) (l₀ : List ℕ) where
   pub record Kept (i k : ℕ) (l : List ℕ) : Type 0 where
-    pub count : k ≡ length (keep t (take i l₀))
+    pub count : k ≡ length (filter t (take i l₀))
     pub few : k ≤ i
-    pub list : l ≡ keep t (take i l₀) ++ drop k l₀
-
-  -- the elements before place i + 1
-  keep-next : (i : ℕ) → i < length l₀ → keep t (take (i + 1) l₀) ≡ keep t (take i l₀) ++ keep t (get_or l₀ i 0 ∷ [])
-  keep-next i h = rw (add-one i) (ap (keep t) (take-suc l₀ i 0 h) ∙ keep_append t (take i l₀) (get_or l₀ i 0 ∷ []))
+    pub list : l ≡ filter t (take i l₀) ++ drop k l₀
 
   pub kept-yes : (i k : ℕ) (l : List ℕ) (o : ℕ) → Kept i k l → i < length l₀ → o ≡ get_or l₀ i 0 → t o ≡ true → Kept (i + 1) (k + 1) (set l k o)
   kept-yes i k l o s h e f =
-      let front : List ℕ = keep t (take i l₀) in
-      let n : keep t (take (i + 1) l₀) ≡ front ++ (o ∷ []) =
-      keep-next i h ∙ ap (λ (x : ℕ). front ++ keep t (x ∷ [])) (sym e) ∙ ap (λ (b : Bool). front ++ add b o []) f in
+      let front : List ℕ = filter t (take i l₀) in
+      let n : filter t (take (i + 1) l₀) ≡ front ++ (o ∷ []) =
+      filter_more t l₀ i 0 h ∙ ap (λ (x : ℕ). front ++ filter t (x ∷ [])) (sym e) ∙ ap (λ (b : Bool). front ++ cond b (o ∷ []) []) f in
       record {
         count = omega (arith, s.count, ap length n, length-append front (o ∷ []));
         few = omega (arith, s.few);
@@ -55,9 +50,9 @@ module _ (t : ℕ → Bool) (l₀ : List ℕ) where
 
   pub kept-no : (i k : ℕ) (l : List ℕ) → Kept i k l → i < length l₀ → t (get_or l₀ i 0) ≡ false → Kept (i + 1) k l
   kept-no i k l s h f =
-      let front : List ℕ = keep t (take i l₀) in
-      let n : keep t (take (i + 1) l₀) ≡ front =
-      keep-next i h ∙ ap (λ (b : Bool). front ++ add b (get_or l₀ i 0) []) f ∙ append-nil front in
+      let front : List ℕ = filter t (take i l₀) in
+      let n : filter t (take (i + 1) l₀) ≡ front =
+      filter_more t l₀ i 0 h ∙ ap (λ (b : Bool). front ++ cond b (get_or l₀ i 0 ∷ []) []) f ∙ append-nil front in
       record {
         count = s.count ∙ ap length (sym n);
         few = omega (arith, s.few);
@@ -65,27 +60,15 @@ module _ (t : ℕ → Bool) (l₀ : List ℕ) where
       }
 
   -- no element is left
-  pub kept-all : (i k : ℕ) (l : List ℕ) → Kept i k l → length l₀ ≤ i → (k ≡ length (keep t l₀)) × (l ≡ keep t l₀ ++ drop k l₀)
+  pub kept-all : (i k : ℕ) (l : List ℕ) → Kept i k l → length l₀ ≤ i → (k ≡ length (filter t l₀)) × (l ≡ filter t l₀ ++ drop k l₀)
   kept-all i k l s h =
-      let n : keep t (take i l₀) ≡ keep t l₀ = ap (keep t) (take_all i l₀ h) in
+      let n : filter t (take i l₀) ≡ filter t l₀ = ap (filter t) (take_all i l₀ h) in
       (s.count ∙ ap length n, s.list ∙ ap (λ (x : List ℕ). x ++ drop k l₀) n)
 
 -- ---- known offsets, and what holds of some or of every clause
 
-pub known_in : (p : ℕ → Bool) (l : List ℕ) (x k : ℕ) → every p l ≡ true → k < length l → x ≡ get_or l k x → p x ≡ true
-known_in p [] x k e h f = absurd (omega arith)
-known_in p (y ∷ l) x zero e h f = ap p f ∙ (and-true (p y) (every p l) e).0
-known_in p (y ∷ l) x (suc k) e h f = known_in p l x k (and-true (p y) (every p l) e).1 (omega arith) f
-
-pub open-any : (K : ℕ → ℕ → Key) (a : ℕ) (l : List ℕ) → list_any (λ o. is_open (K o a)) l ≡ any_open K a l
-unfolding any_open
-open-any K a [] = refl
-open-any K a (o ∷ l) = ap (λ (b : Bool). is_open (K o a) || b) (open-any K a l)
-
-pub same-all : (K : ℕ → ℕ → Key) (a : ℕ) (k : Key) (l : List ℕ) → list_all (λ o. same (K o a) k) l ≡ all_same K a k l
-unfolding all_same
-same-all K a k [] = refl
-same-all K a k (o ∷ l) = ap (λ (b : Bool). same (K o a) k && b) (same-all K a k l)
+pub known_in : (p : ℕ → Bool) (l : List ℕ) (x k : ℕ) → list_all p l ≡ true → k < length l → x ≡ get_or l k x → p x ≡ true
+known_in p l x k e h f = ap p f ∙ AllPass-from_list_all p l e k x h
 
 -- ---- a bucket at the front of the list
 
@@ -105,19 +88,11 @@ front_kept G rest list n e f = record {
 pub front-first : (G list : List ℕ) (n : ℕ) → Front G n list → 0 < n → get_or list 0 0 ≡ get_or G 0 0
 front-first G list n s h = sym (get_or-take n list 0 0 h) ∙ ap (λ (l : List ℕ). get_or l 0 0) s.front
 
-length-keep : {A : Type 0} (p : A → Bool) (xs : List A) → length (keep p xs) ≤ length xs
-length-keep p [] = omega arith
-length-keep p (x ∷ xs) = go (p x) (length-keep p xs)
-  where
-    go : (b : Bool) → length (keep p xs) ≤ length xs → length (add b x (keep p xs)) ≤ suc (length xs)
-    go true ih = omega arith
-    go false ih = omega arith
-
 pub length-like : (K : ℕ → ℕ → Key) (g : Bool) (a : ℕ) (q : Key) (os : List ℕ) → length (like_to K g a q os) ≤ length os
 unfolding like_to
-length-like K g a q os = length-keep (λ o. alike g q (K o a)) os
+length-like K g a q os = omega (arith, length-filter (λ o. alike g q (K o a)) os, count_by-le-length (λ o. alike g q (K o a)) os)
 
-pub known-like : (p : ℕ → Bool) (K : ℕ → ℕ → Key) (g : Bool) (a : ℕ) (q : Key) (os : List ℕ) → every p os ≡ true → every p (like_to K g a q os) ≡ true
+pub known-like : (p : ℕ → Bool) (K : ℕ → ℕ → Key) (g : Bool) (a : ℕ) (q : Key) (os : List ℕ) → list_all p os ≡ true → list_all p (like_to K g a q os) ≡ true
 unfolding like_to
 known-like p K g a q os e = every-keep p (λ o. alike g q (K o a)) os e
 
@@ -159,7 +134,7 @@ held-empty starts old new dynamic q = go (dynamic && eqb (group_of q) 2)
     go false = held_none starts old new
 
 pub held-entered : (starts old new : List ℕ) (dynamic : Bool) (h : Step) (k : ℕ) → k ≤ length new → k ≤ length old
-    → every (known starts) (take k new) ≡ true → Held starts old new (entered_by dynamic h k (get_or new 0 0))
+    → list_all (known starts) (take k new) ≡ true → Held starts old new (entered_by dynamic h k (get_or new 0 0))
 unfolding entered_by
 held-entered starts old new dynamic h k s e f = go dynamic
   where
@@ -176,7 +151,7 @@ held-entered starts old new dynamic h k s e f = go dynamic
         record {
           front = head new (omega arith);
           within = omega arith;
-          offsets = ap (λ (x : ℕ). every (known starts) (take x new)) (sym n) ∙ f;
+          offsets = ap (λ (x : ℕ). list_all (known starts) (take x new)) (sym n) ∙ f;
         }
     one false z = line
 

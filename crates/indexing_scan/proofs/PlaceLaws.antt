@@ -8,14 +8,15 @@ use Prim.Native.Nat.{ℕ, zero, suc, ◌+◌, ◌-◌, ◌≤◌, ◌<◌}
 use native.Mathlib.Nat.{add-zero, zero-add}
 use native.Mathlib.Numerals.{add-one}
 use native.Mathlib.Omega.{arith}
+use Rattle.std.proofs.lemmas.Bool.{both_ways}
+use Rattle.std.specs.List.{AllByRecursion}
 use lib.Dec.{eqb}
 use lib.ListN.{length, get_or, take, drop, length-append, length-drop, length-map}
 use lib.Seq.{slice, length-take-le, take-take, take-add, take_at, drop_at, drop-drop, drop-append-add, drop-append_seam, take-append_seam, get_or-drop}
 use Rattle.records.specs.declared.Rec.{Rec}
 use Rattle.records.specs.Records.{zero_rec}
-use Rattle.indexing.proofs.Lists.{All, all_append}
+use Rattle.indexing.proofs.Lists.{all_append}
 use Rattle.indexing.proofs.Reading.{FitEntry}
-use Rattle.indexing.proofs.Tests.{bool-absurd}
 use Rattle.indexing.specs.Build.{Program}
 use Rattle.indexing.specs.Columns.{words_of}
 use Rattle.indexing.specs.Lines.{Ptr, Entry, Table, switch, on_demand, dead, Choice, Line, Index, no_line, line_at, offs}
@@ -29,17 +30,18 @@ use Rattle.indexing_scan.specs.Places.{choose_rec, choice_of}
 
 -- ---- runs
 
-upto-pass : (t : Rec → Bool) (xs ys : List Rec) → All (λ r. t r ≡ false) xs → up_to t (xs ++ ys) ≡ length xs + up_to t ys
+upto-pass : (t : Rec → Bool) (xs ys : List Rec) → AllByRecursion (λ r. t r ≡ false) xs → up_to t (xs ++ ys) ≡ length xs + up_to t ys
 unfolding up_to
 upto-pass t [] ys f = sym (zero-add (up_to t ys))
 upto-pass t (x ∷ xs) ys f = rw f.0 (omega (arith, upto-pass t xs ys f.1))
 
-through-pass : (d : ℕ) (xs ys : List Rec) → All (λ r. eqb r.kind 1 ≡ false) xs → through_line (suc d) (xs ++ ys) ≡ length xs + through_line (suc d) ys
+through-pass : (d : ℕ) (xs ys : List Rec) → AllByRecursion (λ r. eqb r.kind 1 ≡ false) xs
+    → through_line (suc d) (xs ++ ys) ≡ length xs + through_line (suc d) ys
 unfolding through_line
 through-pass d [] ys f = sym (zero-add (through_line (suc d) ys))
 through-pass d (x ∷ xs) ys f = rw f.0 (omega (arith, through-pass d xs ys f.1))
 
-all_map : {A : Type 0} (Φ : Rec → Type 0) (g : A → Rec) → ((x : A) → Φ (g x)) → (xs : List A) → All Φ (map g xs)
+all_map : {A : Type 0} (Φ : Rec → Type 0) (g : A → Rec) → ((x : A) → Φ (g x)) → (xs : List A) → AllByRecursion Φ (map g xs)
 all_map Φ g f [] = tt
 all_map Φ g f (x ∷ xs) = (f x, all_map Φ g f xs)
 
@@ -55,21 +57,21 @@ table-recs (on_demand a) = refl
 table-recs (dead a os) = refl
 
 -- what holds of the kinds of items, and of those of tables
-items-kinds : (Ψ : ℕ → Type 0) → Ψ 5 → Ψ 7 → (t : Table) → All (λ r. Ψ r.kind) (item_recs t)
+items-kinds : (Ψ : ℕ → Type 0) → Ψ 5 → Ψ 7 → (t : Table) → AllByRecursion (λ r. Ψ r.kind) (item_recs t)
 items-kinds Ψ e d (switch a es) = all_map (λ r. Ψ r.kind) entry_rec (λ x. e) es
 items-kinds Ψ e d (on_demand a) = tt
 items-kinds Ψ e d (dead a os) = all_map (λ r. Ψ r.kind) dead_rec (λ x. d) os
 
-tables-kinds : (Ψ : ℕ → Type 0) → Ψ 2 → Ψ 3 → Ψ 4 → Ψ 5 → Ψ 7 → (ts : List Table) → All (λ r. Ψ r.kind) (tables_recs ts)
+tables-kinds : (Ψ : ℕ → Type 0) → Ψ 2 → Ψ 3 → Ψ 4 → Ψ 5 → Ψ 7 → (ts : List Table) → AllByRecursion (λ r. Ψ r.kind) (tables_recs ts)
 tables-kinds Ψ a b c e d [] = tt
 tables-kinds Ψ a b c e d (t ∷ ts) = all_append (λ r. Ψ r.kind) (table_recs t) (tables_recs ts) (go t) (tables-kinds Ψ a b c e d ts)
   where
-    go : (t : Table) → All (λ r. Ψ r.kind) (table_recs t)
+    go : (t : Table) → AllByRecursion (λ r. Ψ r.kind) (table_recs t)
     go (switch x es) = (a, items-kinds Ψ e d (switch x es))
     go (on_demand x) = (b, tt)
     go (dead x os) = (c, items-kinds Ψ e d (dead x os))
 
-choices-kinds : (Ψ : ℕ → Type 0) → Ψ 6 → (cs : List Choice) → All (λ r. Ψ r.kind) (map choice_rec cs)
+choices-kinds : (Ψ : ℕ → Type 0) → Ψ 6 → (cs : List Choice) → AllByRecursion (λ r. Ψ r.kind) (map choice_rec cs)
 choices-kinds Ψ e cs = all_map (λ r. Ψ r.kind) choice_rec (λ x. e) cs
 
 -- where the three runs end
@@ -303,21 +305,21 @@ module _ {m : ℕ} {idx : Index} {rs : List Rec} {l : ℕ} {p : ℕ} where
 
   -- kind 2
   pub at-switch : (ts : List Table) → At m idx rs l ts p → (get_or rs p zero_rec).kind ≡ 2 → LeftSwitch ts (get_or rs p zero_rec).half
-  at-switch [] at e = bool-absurd (ap is_table e) (at_none at)
+  at-switch [] at e = absurd (both_ways _ (at_none at) (ap is_table e))
   at-switch (switch a es ∷ ts) at e = record { entries = es; later = ts; is = ap (λ (x : ℕ). switch x es ∷ ts) (sym (half_is at)) }
   at-switch (on_demand a ∷ ts) at e = absurd (omega (arith, other-kind 2 at e))
   at-switch (dead a os ∷ ts) at e = absurd (omega (arith, other-kind 2 at e))
 
   -- kind 3
   pub at-demand : (ts : List Table) → At m idx rs l ts p → (get_or rs p zero_rec).kind ≡ 3 → LeftDemand ts (get_or rs p zero_rec).half
-  at-demand [] at e = bool-absurd (ap is_table e) (at_none at)
+  at-demand [] at e = absurd (both_ways _ (at_none at) (ap is_table e))
   at-demand (switch a es ∷ ts) at e = absurd (omega (arith, other-kind 3 at e))
   at-demand (on_demand a ∷ ts) at e = record { later = ts; is = ap (λ (x : ℕ). on_demand x ∷ ts) (sym (half_is at)) }
   at-demand (dead a os ∷ ts) at e = absurd (omega (arith, other-kind 3 at e))
 
   -- kind 4
   pub at_dead : (ts : List Table) → At m idx rs l ts p → (get_or rs p zero_rec).kind ≡ 4 → LeftDead ts (get_or rs p zero_rec).half
-  at_dead [] at e = bool-absurd (ap is_table e) (at_none at)
+  at_dead [] at e = absurd (both_ways _ (at_none at) (ap is_table e))
   at_dead (switch a es ∷ ts) at e = absurd (omega (arith, other-kind 4 at e))
   at_dead (on_demand a ∷ ts) at e = absurd (omega (arith, other-kind 4 at e))
   at_dead (dead a os ∷ ts) at e = record { clauses = os; later = ts; is = ap (λ (x : ℕ). dead x os ∷ ts) (sym (half_is at)) }
@@ -325,9 +327,9 @@ module _ {m : ℕ} {idx : Index} {rs : List Rec} {l : ℕ} {p : ℕ} where
   -- any other kind
   pub at_last : (ts : List Table) → At m idx rs l ts p → is_table (get_or rs p zero_rec).kind ≡ false → ts ≡ []
   at_last [] at e = refl
-  at_last (switch a es ∷ ts) at e = bool-absurd (ap (λ (r : Rec). is_table r.kind) (at-record at)) e
-  at_last (on_demand a ∷ ts) at e = bool-absurd (ap (λ (r : Rec). is_table r.kind) (at-record at)) e
-  at_last (dead a os ∷ ts) at e = bool-absurd (ap (λ (r : Rec). is_table r.kind) (at-record at)) e
+  at_last (switch a es ∷ ts) at e = absurd (both_ways _ e (ap (λ (r : Rec). is_table r.kind) (at-record at)))
+  at_last (on_demand a ∷ ts) at e = absurd (both_ways _ e (ap (λ (r : Rec). is_table r.kind) (at-record at)))
+  at_last (dead a os ∷ ts) at e = absurd (both_ways _ e (ap (λ (r : Rec). is_table r.kind) (at-record at)))
 
 -- ---- the same in the buffer, whose first n records are the index's
 
@@ -349,6 +351,7 @@ module _ (R : List Rec) (n : ℕ) (fits : n ≤ length R) {m : ℕ} {idx : Index
   at-copied {q} at k e h = ap words_of (part-first R q (q + k) n h ∙ at-choices at k e) ∙ words-choices (line_at idx l).choices
 
   -- 6: what is chosen among the records behind a switch is what the walk chooses among its entries
-  pub at-chosen : (P : Program) (key : Key) {a : ℕ} {es : List (Entry Ptr)} {ts : List Table} {p : ℕ} → At m idx (take n R) l (switch a es ∷ ts) p → All FitEntry es
+  pub at-chosen : (P : Program) (key : Key) {a : ℕ} {es : List (Entry Ptr)} {ts : List Table} {p : ℕ} → At m idx (take n R) l (switch a es ∷ ts) p
+      → AllByRecursion FitEntry es
       → (q : ℕ) → q ≡ behind_table (take n R) p → q ≤ n → choice_of (choose_rec key (slice (p + 1) q R)) ≡ choose P key es
   at-chosen P key {es = es} {p = p} at f q e h = choose-entries P key es (slice (p + 1) q R) f (part-first R (p + 1) q n h ∙ at-items at q e)

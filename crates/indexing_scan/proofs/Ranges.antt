@@ -1,29 +1,25 @@
 -- What a chain over the places of some records says of the records.
 -- Assumes nothing.
 use mathlib.Core.Path.{◌≡◌, refl, sym, ap, ap₂, ◌∙◌, subst}
-use mathlib.Core.Bool.{Bool, true, false, cond, ◌&&◌}
+use mathlib.Core.Bool.{Bool, true, false, cond}
 use mathlib.Core.List.{List, [], ◌∷◌, map}
 use Prim.Native.Nat.{ℕ, ◌+◌, ◌-◌, ◌≤◌, ◌<◌}
 use native.Mathlib.Numerals.{add-one}
 use native.Mathlib.Omega.{arith}
+use Rattle.std.proofs.lemmas.List.Folds.{list_all-map}
 use lib.ListN.{length, get_or}
 use Rattle.std.specs.Range.{range_inclusive_steps, range_inclusive_left}
 use Rattle.std.specs.declared.ops.RangeInclusive.{RangeInclusive}
 use Rattle.std.specs.Prelude.{Option, Some}
 use Rattle.std.proofs.lemmas.Iterator.{YieldsList}
 use Rattle.std.proofs.lemmas.Iterator.Consumers.{YieldsList-from_shown}
-use Rattle.std.specs.List.{list_all, filter, range_with_len}
+use Rattle.std.specs.List.{filter, list_all, range_with_len}
 use Rattle.std.proofs.lemmas.List.FromFn.{fill_by_all, length-range_with_len, get_or-range_with_len}
 use Rattle.records.specs.declared.Rec.{Rec}
 use Rattle.records.specs.Records.{zero_rec}
-use Rattle.indexing.specs.Lists.{every}
 use Rattle.indexing_scan.specs.Places.{count_of}
 
 module _ (t : Rec → Bool) where
-  all-map : (f : ℕ → Rec) (is : List ℕ) → list_all (λ i. t (f i)) is ≡ every t (map f is)
-  all-map f [] = refl
-  all-map f (i ∷ is) = ap (λ (b : Bool). t (f i) && b) (all-map f is)
-
   count-map : (f : ℕ → Rec) (is : List ℕ) → length (filter (λ i. t (f i)) is) ≡ count_of t (map f is)
   unfolding count_of
   count-map f [] = refl
@@ -38,8 +34,8 @@ module _ (t : Rec → Bool) where
     places : map (λ i. get_or rs i zero_rec) (range_with_len 0 (length rs)) ≡ rs
     places = sym (fill_by_all (λ i. get_or rs i zero_rec) rs (length rs) zero_rec refl (λ k h. refl))
 
-    pub all-records : list_all (λ i. t (get_or rs i zero_rec)) (range_with_len 0 (length rs)) ≡ every t rs
-    all-records = all-map (λ i. get_or rs i zero_rec) (range_with_len 0 (length rs)) ∙ ap (every t) places
+    pub all-records : list_all (λ i. t (get_or rs i zero_rec)) (range_with_len 0 (length rs)) ≡ list_all t rs
+    all-records = sym (list_all-map t (λ i. get_or rs i zero_rec) (range_with_len 0 (length rs))) ∙ ap (list_all t) places
 
     pub count-records : length (filter (λ i. t (get_or rs i zero_rec)) (range_with_len 0 (length rs))) ≡ count_of t rs
     count-records = count-map (λ i. get_or rs i zero_rec) (range_with_len 0 (length rs)) ∙ ap (count_of t) places

@@ -7,12 +7,12 @@ use mathlib.Core.Option.{Option, none, some}
 use Prim.Native.Nat.{ℕ, zero, suc, ◌+◌, ◌≤◌, ◌<◌, ◌-◌}
 use native.Mathlib.Decide.{ℕ_discrete}
 use native.Mathlib.Omega.{arith}
+use Rattle.std.proofs.lemmas.Bool.{eq-eqb, ne_eqb}
 use lib.ListN.{length, drop}
 use Rattle.indexing_iter.specs.Keys.{is_open}
 use Rattle.indexing_iter.specs.declared.OptArgIndexKey.{OptArgIndexKey as Key}
 use Rattle.indexing.proofs.Expand.{outcome, expanded-arg, opens, at-line, new-table, length-expand, same-table, no_switch, later-find}
 use Rattle.indexing.proofs.Order.{Args, args-later, drop-swap, expand-at, Beyond, beyond-ext, beyond-int, Orderly, orderly-expand}
-use Rattle.indexing.proofs.Tests.{eqb_same, eqb-other}
 use Rattle.indexing.specs.Build.{Program, later_table}
 use Rattle.indexing.specs.Lines.{Ptr, Table, switch, on_demand, dead, Line, Index, line_at, arg_of, find}
 use Rattle.indexing.specs.Expand.{expand, State, attempt}
@@ -27,7 +27,7 @@ use Rattle.indexing_scan.specs.Walk.{result, line_number, tables_in, expand_firs
 -- tables with greater arguments are not for a smaller one
 find-below : (m n b : ℕ) (ts : List Table) → Args m n ts → b < n → find b ts ≡ none
 find-below m n b [] r h = refl
-find-below m n b (t ∷ ts) r h = rw (eqb-other {m = arg_of t} {n = b} (omega (arith, r.0))) (find-below m (suc (arg_of t)) b ts r.2 (omega (arith, r.0)))
+find-below m n b (t ∷ ts) r h = rw (ne_eqb (arg_of t) b (omega (arith, r.0))) (find-below m (suc (arg_of t)) b ts r.2 (omega (arith, r.0)))
 
 module _ (P : Program) where
   -- the tables ts are what is left of place p from argument a on
@@ -111,7 +111,7 @@ module _ (P : Program) where
     left-next : (idx : Index) (a b : ℕ) (u : Table) (ts : List Table) (p : Place) → arg_of u ≡ b → a ≤ b → Left idx p a (u ∷ ts) → Left idx p (suc b) ts
     left-next idx a b u ts p e k l = record {
       args = subst (λ (x : ℕ). Args P.arity (suc x) ts) e l.args.2;
-      looks = λ c x y. sym (ap (λ (z : Bool). cond z (some u) (find c ts)) (eqb-other {m = arg_of u} {n = c} (omega arith))) ∙ l.looks c (omega arith) y;
+      looks = λ c x y. sym (ap (λ (z : Bool). cond z (some u) (find c ts)) (ne_eqb (arg_of u) c (omega arith))) ∙ l.looks c (omega arith) y;
     }
 
     rest-left : (s : State) (a b : ℕ) (t : State) (u : Table) (ts : List Table) {p : Place} → Turn P cap s b (Q b) p t → Here s.index p → arg_of u ≡ b → a ≤ b
@@ -140,7 +140,7 @@ module _ (P : Program) where
     -- the first of the tables left is the one for its argument
     left-first : (idx : Index) (p : Place) (a : ℕ) (u : Table) (us : List Table) → Left idx p a (u ∷ us) → table_at P idx p (arg_of u) ≡ some u
     left-first idx p a u us l =
-        sym (l.looks (arg_of u) l.args.0 l.args.1) ∙ ap (λ (z : Bool). cond z (some u) (find (arg_of u) us)) (eqb_same (arg_of u))
+        sym (l.looks (arg_of u) l.args.0 l.args.1) ∙ ap (λ (z : Bool). cond z (some u) (find (arg_of u) us)) (eq-eqb (arg_of u) _ refl)
 
     -- it is expanded at its place if it is expanded for its argument
     ready-settle : (s : State) (p : Place) (c i a : ℕ) (u : Table) (us : List Table) → drop i (tables_of P s.index c p) ≡ u ∷ us

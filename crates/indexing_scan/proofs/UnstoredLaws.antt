@@ -7,6 +7,8 @@ use mathlib.Core.List.{List, [], ◌∷◌, ◌++◌}
 use mathlib.Core.Option.{none, some}
 use Prim.Native.Nat.{ℕ, zero, suc, ◌+◌, ◌-◌, ◌≤◌, ◌<◌}
 use native.Mathlib.Omega.{arith}
+use Rattle.std.specs.List.{list_all, list_any}
+use Rattle.std.proofs.lemmas.Bool.{and_parts}
 use lib.ListN.{length, take, drop, get_or, length-append, length-drop}
 use lib.Seq.{length-take-le}
 use Rattle.std.proofs.lemmas.List.{take-append-le}
@@ -14,10 +16,8 @@ use native.Mathlib.Numerals.{add-one}
 use Rattle.indexing_iter.specs.declared.OptArgIndexKey.{OptArgIndexKey as Key}
 use Rattle.indexing_iter.specs.Clauses.{known}
 use Rattle.indexing_iter.specs.Keys.{is_open}
-use Rattle.indexing.specs.Lists.{add, any_of, every}
 use Rattle.indexing.specs.Lines.{dead}
 use Rattle.indexing.specs.Build.{Program, single, open_at, new_table, virtual}
-use Rattle.indexing.proofs.Tests.{and-true}
 use Rattle.indexing_scan.specs.Agree.{Call}
 use Rattle.indexing_scan.specs.Cases.{ending_of}
 use Rattle.indexing_scan.specs.declared.case.Case.{Case as Ending}
@@ -78,12 +78,12 @@ module _ (P : Program) (a : ℕ) (q : Key) (os : List ℕ) where
   unfolding any_open
   by-open {X} f x y e g = go os
     where
-      go : (l : List ℕ) → f (open_at P a l) ≡ cond (any_of (λ o. is_open (P.key_of o a)) l) x y
+      go : (l : List ℕ) → f (open_at P a l) ≡ cond (list_any (λ o. is_open (P.key_of o a)) l) x y
       go [] = e
       go (o ∷ l) = one (is_open (P.key_of o a)) (go l)
         where
-          one : (b : Bool) → f (open_at P a l) ≡ cond (any_of (λ o. is_open (P.key_of o a)) l) x y
-              → f (add b o (open_at P a l)) ≡ cond (b || any_of (λ o. is_open (P.key_of o a)) l) x y
+          one : (b : Bool) → f (open_at P a l) ≡ cond (list_any (λ o. is_open (P.key_of o a)) l) x y
+              → f (cond b (o ∷ open_at P a l) (open_at P a l)) ≡ cond (b || list_any (λ o. is_open (P.key_of o a)) l) x y
           one true ih = g o (open_at P a l)
           one false ih = ih
 
@@ -159,10 +159,10 @@ module _ {P : Program} {a : ℕ} {os : List ℕ} {t : Bool} (x : Unmasked P a os
     move-switch m e f g = g ∙ sym (move-is P a q os ∙ rw (x.is, ← x.opens, e, ← unbound, f) refl)
 
 -- the first clause of a front
-pub known-first : (p : ℕ → Bool) (n : ℕ) (list : List ℕ) → every p (take n list) ≡ true → 0 < n → n ≤ length list → p (get_or list 0 0) ≡ true
+pub known-first : (p : ℕ → Bool) (n : ℕ) (list : List ℕ) → list_all p (take n list) ≡ true → 0 < n → n ≤ length list → p (get_or list 0 0) ≡ true
 known-first p n [] e h k = absurd (omega arith)
 known-first p zero (x ∷ list) e h k = absurd (omega arith)
-known-first p (suc n) (x ∷ list) e h k = (and-true (p x) (every p (take n list)) e).0
+known-first p (suc n) (x ∷ list) e h k = (and_parts (p x) (list_all p (take n list)) e).0
 
 -- ---- the answer, argument by argument
 
@@ -250,20 +250,20 @@ pub record Finishing (P : Program) (Q : Call) (starts : List ℕ) (A : Answer) (
   pub few : tables + a ≤ b
   pub fits : count ≤ length list
   pub same : length list ≡ m
-  pub offsets : every (known starts) (take count list) ≡ true
+  pub offsets : list_all (known starts) (take count list) ≡ true
   pub small : P.arity ≤ 32
 
 -- what stands in the first m clauses of the list after an answer: no more than m, each with a known offset
 pub held-front : (starts : List ℕ) (m : ℕ) (list new : List ℕ) (r : Narrowed) → m ≤ length list → Held starts (take m list) new r
-    → (count_of m r ≤ m) × (every (known starts) (take (count_of m r) new) ≡ true)
+    → (count_of m r ≤ m) × (list_all (known starts) (take (count_of m r) new) ≡ true)
 held-front starts m list new r k s =
     let n : length (take m list) ≡ m = length-take-le m list k in
-    (subst (λ (x : ℕ). count_of x r ≤ x) n s.within, subst (λ (x : ℕ). every (known starts) (take (count_of x r) new) ≡ true) n s.offsets)
+    (subst (λ (x : ℕ). count_of x r ≤ x) n s.within, subst (λ (x : ℕ). list_all (known starts) (take (count_of x r) new) ≡ true) n s.offsets)
 
 -- after one argument more, the clauses at the front being new
 pub finishing-next : {P : Program} {Q : Call} {starts : List ℕ} {A : Answer} {a m : ℕ} {list : List ℕ} {count tables b : ℕ}
     → Finishing P Q starts A a m list count tables b → b ≤ P.arity → (new : List ℕ) → length new ≡ count → (k n : ℕ)
-    → Goes A n (answer_at P Q (b + 1) (take k new)) → k ≤ count → n ≤ tables + 1 → every (known starts) (take k new) ≡ true
+    → Goes A n (answer_at P Q (b + 1) (take k new)) → k ≤ count → n ≤ tables + 1 → list_all (known starts) (take k new) ≡ true
     → Finishing P Q starts A a m (new ++ drop count list) k n (b + 1)
 finishing-next {P} {Q} {starts} {A} {a} {m} {list} {count} {tables} {b} s h new e k n g x y o =
     let long : length (new ++ drop count list) ≡ length list = omega (arith, s.fits, length-append new (drop count list), length-drop count list) in
@@ -275,6 +275,6 @@ finishing-next {P} {Q} {starts} {A} {a} {m} {list} {count} {tables} {b} s h new 
       few = omega (arith, s.few);
       fits = omega (arith, s.fits);
       same = long ∙ s.same;
-      offsets = subst (λ (l : List ℕ). every (known starts) l ≡ true) front o;
+      offsets = subst (λ (l : List ℕ). list_all (known starts) l ≡ true) front o;
       small = s.small;
     }

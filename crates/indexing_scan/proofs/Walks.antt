@@ -6,14 +6,14 @@ use mathlib.Core.List.{List}
 use mathlib.Core.Option.{Option, none, some}
 use Prim.Native.Nat.{ℕ, zero, suc, ◌+◌, ◌≤◌, ◌<◌}
 use native.Mathlib.Omega.{arith}
-use lib.Dec.{leb, leb→le, le→leb, nleb→lt}
+use Rattle.std.proofs.lemmas.Bool.{and_parts, le-leb, leb-true}
+use lib.Dec.{leb, nleb→lt}
 use lib.ListN.{length}
 use Rattle.indexing_iter.specs.Keys.{is_open}
 use Rattle.indexing_iter.specs.declared.OptArgIndexKey.{OptArgIndexKey as Key}
 use Rattle.indexing.proofs.Expand.{length-expand, no_switch}
 use Rattle.indexing.proofs.Grown.{Grown, grown-same, grown-more, grown-trans, grown-closed, grown-length}
 use Rattle.indexing.proofs.Pointers.{Inside, Closed, closed-expand}
-use Rattle.indexing.proofs.Tests.{T_true, true-T, and-true}
 use Rattle.indexing.specs.Build.{Program, later_table}
 use Rattle.indexing.specs.Expand.{expand, State, attempt}
 use Rattle.indexing.specs.Lines.{Table, switch, on_demand, dead, Index, line_at, find, size}
@@ -86,15 +86,15 @@ module _ (P : Program) where
         fits : due s.index l a q ≡ true → (c : ℕ) → find a (line_at s.index l).tables ≡ some (on_demand c) → (x : Bool)
             → leb (size (expand P s.index l a)) cap ≡ x
             → Turn s a q (line l) (cond x (record { storing = true; index = expand P s.index l a }) (record { storing = false; index = s.index }))
-        fits w c d true e = stores d (leb→le (size (expand P s.index l a)) cap (true-T e))
+        fits w c d true e = stores d (leb-true (size (expand P s.index l a)) cap e)
         fits w c d false e = refuses w d (nleb→lt (size (expand P s.index l a)) cap (rw e tt))
 
         go : (x : Bool) → s.storing && due s.index l a q ≡ x → Turn s a q (line l) (cond x (attempt cap s.index (expand P s.index l a)) s)
         go false e = quiet e
         go true e =
-            let w = and-true s.storing (due s.index l a q) e in
+            let w = and_parts s.storing (due s.index l a q) e in
             let t : Option Table = find a (line_at s.index l).tables in
-            let d = on-demand t (and-true (not (is_open q)) (is_on_demand t) w.1).1 in
+            let d = on-demand t (and_parts (not (is_open q)) (is_on_demand t) w.1).1 in
             fits w.1 d.0 d.1 (leb (size (expand P s.index l a)) cap) refl
 
     -- no expansion changes an answer
@@ -166,7 +166,7 @@ module _ (P : Program) (cap : ℕ) where
   -- one is due, and fits
   pub settle-fits : (idx : Index) (l a : ℕ) (q : Key) → due idx l a q ≡ true → size (expand P idx l a) ≤ cap
       → settle P cap (record { storing = true; index = idx }) (line l) a q ≡ record { storing = true; index = expand P idx l a }
-  settle-fits idx l a q e f = rw (e, T_true (leb (size (expand P idx l a)) cap) (le→leb (size (expand P idx l a)) cap f)) refl
+  settle-fits idx l a q e f = rw (e, le-leb (size (expand P idx l a)) cap f) refl
 
   -- one is due, and does not fit
   pub settle-full : (idx : Index) (l a : ℕ) (q : Key) → due idx l a q ≡ true → cap < size (expand P idx l a)
@@ -176,7 +176,7 @@ module _ (P : Program) (cap : ℕ) where
       go : (x : Bool) → leb (size (expand P idx l a)) cap ≡ x
           → ◌≡◌ {A = State} (cond x (record { storing = true; index = expand P idx l a }) (record { storing = false; index = idx }))
           (record { storing = false; index = idx })
-      go true x = absurd (omega (arith, leb→le (size (expand P idx l a)) cap (true-T x)))
+      go true x = absurd (omega (arith, leb-true (size (expand P idx l a)) cap x))
       go false x = refl
 
   -- one turn of the walk

@@ -1,6 +1,6 @@
 -- The first clause that agrees with a call is a witness.
 -- Assumes nothing.
-use Rattle.std.specs.List.{list_all, find, range_with_len}
+use Rattle.std.specs.List.{filter, find, list_all, range_with_len}
 use Rattle.std.proofs.lemmas.List.{get_or_default}
 use Prim.Native.Nat.{ℕ, zero, suc, ◌+◌, ◌≤◌, ◌<◌}
 use mathlib.Core.Path.{◌≡◌, refl, sym, ap, ◌∙◌}
@@ -18,7 +18,6 @@ use Rattle.indexing_iter.specs.Clauses.{known, offsets_of}
 use Rattle.indexing_iter.specs.Checks.{check_code}
 use Rattle.indexing_iter.proofs.CheckLaws.{start-known, code-offset, code-size}
 use Rattle.indexing.specs.Build.{Program}
-use Rattle.indexing.specs.Lists.{keep, add}
 use Rattle.indexing_scan.specs.Agree.{Call, agree_at, agree_from}
 use Rattle.indexing_scan.specs.Calls.{check_call, witness_checks, agreeing}
 use Rattle.indexing_scan.specs.Witness.{IsWitness, Witnesses, first_of}
@@ -32,11 +31,11 @@ all-agree P Q o (suc n) a = rw (← add-one a) (ap (λ (b : Bool). agree_at (Q a
 -- ---- the first of the clauses
 
 -- the first that passes a test is the first of those that do
-pub find-first : (t : ℕ → Bool) (os : List ℕ) → find t os ≡ first_of (keep t os)
+pub find-first : (t : ℕ → Bool) (os : List ℕ) → find t os ≡ first_of (filter t os)
 find-first t [] = refl
 find-first t (o ∷ os) = go (t o) (find-first t os)
   where
-    go : (b : Bool) → find t os ≡ first_of (keep t os) → cond b (Some o) (find t os) ≡ first_of (add b o (keep t os))
+    go : (b : Bool) → find t os ≡ first_of (filter t os) → cond b (Some o) (find t os) ≡ first_of (cond b (o ∷ filter t os) (filter t os))
     go true e = refl
     go false e = e
 

@@ -1,6 +1,7 @@
 -- The walk's call and the witness: results and every byte of every lent buffer, for every input (document 01, section 5 and "What each call gives back").
 -- Assumes nothing.
 use Rattle.std.specs.Prelude.{ℕ, ◌-◌, ◌*◌, Bool, cond, not, ◌&&◌, List, [], ◌∷◌, ◌++◌, eqb, leb, ltb, length, get_or, take, drop}
+use Rattle.std.specs.List.{filter, list_all, list_any}
 use Rattle.records.specs.declared.Rec.{Rec}
 use Rattle.records.specs.Records.{records_of, zero_rec}
 use Rattle.indexing_iter.specs.declared.Settings.{Settings}
@@ -9,7 +10,6 @@ use Rattle.indexing_iter.specs.Refusals.{Checked, refusal_number}
 use Rattle.std.specs.Prelude.{Ok, Err}
 use Rattle.indexing_iter.specs.Clauses.{offsets_of, known}
 use Rattle.indexing_iter.specs.Checks.{otherwise, refuse, check_code}
-use Rattle.indexing.specs.Lists.{keep, any_of, every}
 use Rattle.indexing.specs.Lines.{size}
 use Rattle.indexing.specs.Reading.{key_from, parse}
 use Rattle.indexing.specs.Build.{program_of}
@@ -29,7 +29,7 @@ argument_ok r =
 
 -- 10: call not arity records, sort above 5, used field wrong or unused field not 0; structure arity outside 1..255
 abbrev pub check_call : ℕ → List ℕ → Checked
-check_call arity call = refuse (not (eqb (length call) (16 * arity) && every argument_ok (records_of call))) CallOf
+check_call arity call = refuse (not (eqb (length call) (16 * arity) && list_all argument_ok (records_of call))) CallOf
 
 -- section 5: the key of each argument, counted from 1
 unfoldable pub call_of : List ℕ → Call
@@ -101,9 +101,9 @@ witness_checks cls code starts S call = otherwise (check_code cls S.arity code s
 
 -- the offsets of the clauses that agree with the call
 unfoldable pub agreeing : (ℕ → ℕ) → List ℕ → List ℕ → Settings → List ℕ → List ℕ
-agreeing cls code starts S call = keep (agree (program_of cls S (records_of code) starts) (call_of call)) (offsets_of starts)
+agreeing cls code starts S call = filter (agree (program_of cls S (records_of code) starts) (call_of call)) (offsets_of starts)
 
 -- the witness: some agreeing clause's offset, 0 if there is none
 abbrev pub is_witness : List ℕ → ℕ → Bool
 is_witness [] o = eqb o 0
-is_witness (x ∷ xs) o = any_of (eqb o) (x ∷ xs)
+is_witness (x ∷ xs) o = list_any (eqb o) (x ∷ xs)

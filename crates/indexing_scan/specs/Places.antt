@@ -3,12 +3,12 @@
 -- proofs/PlaceLaws and proofs/ChooseLaws say what they are of the lines of section 3 and of the walk of section 5.
 -- Assumes nothing.
 use Rattle.std.specs.Prelude.{◌≡◌, Bool, cond, not, ◌||◌, List, [], ◌∷◌, ◌++◌, map, ℕ, zero, suc, ◌+◌, ◌≤◌, ◌<◌, eqb, length, take, drop}
+use Rattle.std.specs.List.{filter}
 use Rattle.std.proofs.Math.Option.{Option, none, some}
 use Rattle.records.specs.declared.Rec.{Rec}
 use Rattle.records.specs.Records.{rec_of, records_of}
 use Rattle.indexing_iter.specs.declared.OptArgIndexKey.{OptArgIndexKey as Key}
 use Rattle.indexing_iter.specs.Keys.{group_of, same}
-use Rattle.indexing.specs.Lists.{keep}
 use Rattle.indexing.specs.Lines.{Ptr, Table, switch, on_demand, dead, Index, line_at, tables_recs, choice_rec, records}
 use Rattle.indexing.specs.Reading.{key_from, pointer_from}
 use Rattle.well_formed.specs.Pass.{group_by_sort}
@@ -122,7 +122,7 @@ pick_rec q (r ∷ (s ∷ rs)) = equal_rec q (r ∷ (s ∷ rs))
 
 -- section 5: the choice in a switch, among literals, structures or list by the key's sort
 unfoldable pub choose_rec : Key → List Rec → Chosen
-choose_rec q rs = pick_rec q (keep (in_group (group_of q)) rs)
+choose_rec q rs = pick_rec q (filter (in_group (group_of q)) rs)
 
 -- the choice with its pointer read, as the walk has it: 4 the only entry, 5 the equal key among several
 abbrev pub choice_of : Chosen → Option (WalkChosen Ptr)

@@ -1,10 +1,10 @@
 -- What contracts say again and again of a program and of a call of it. Assumes nothing.
 use Rattle.std.specs.Prelude.{◌≡◌, true, List, [], ℕ, ◌+◌, ◌-◌}
+use Rattle.std.specs.List.{list_all}
 use Rattle.records.specs.Records.{records_of}
 use Rattle.indexing_iter.specs.declared.program.Program.{Program}
 use Rattle.indexing_iter.specs.Classes.{class_of}
 use Rattle.indexing_iter.specs.Clauses.{known}
-use Rattle.indexing.specs.Lists.{every}
 use Rattle.indexing.specs.Build.{Program as Predicate, program_of}
 use Rattle.indexing_scan.specs.Agree.{Call}
 use Rattle.indexing_scan.specs.ByArgument.{answer_from}
@@ -18,7 +18,7 @@ predicate_of program = program_of class_of program.settings (records_of program.
 
 -- each of some offsets is that of a clause
 abbrev pub AreClauses : Program → List ℕ → Type 0
-AreClauses program os = every (known program.starts.now) os ≡ true
+AreClauses program os = list_all (known program.starts.now) os ≡ true
 
 -- the keys of a call
 abbrev pub asked_by : Query → Call

@@ -1,10 +1,10 @@
 -- A line that is not stored, as a list of clauses, narrowed at one argument. For contracts of inner functions.
 -- Assumes nothing.
 use Rattle.std.specs.Prelude.{◌≡◌, Bool, true, false, cond, ◌&&◌, List, [], ◌∷◌, ℕ, ◌≤◌, eqb, length, take}
+use Rattle.std.specs.List.{filter, list_all, list_any}
 use Rattle.indexing_iter.specs.declared.OptArgIndexKey.{OptArgIndexKey as Key}
 use Rattle.indexing_iter.specs.Keys.{group_of, is_open, same}
 use Rattle.indexing_iter.specs.Clauses.{known}
-use Rattle.indexing.specs.Lists.{keep, any_of, every}
 use Rattle.indexing_scan.specs.declared.unstored.Step.{Step}
 use Rattle.indexing_scan.specs.declared.unstored.Step.TheVariants.{Unbound, Dead, Only, Equal}
 use Rattle.indexing_scan.specs.declared.unstored.Narrowed.{Narrowed}
@@ -48,11 +48,11 @@ held_by (Bucket h k) os list = take k list
 pub record Held (starts : List ℕ) (old new : List ℕ) (r : Narrowed) : Type 0 where
   pub front : take (count_of (length old) r) new ≡ held_by r old new
   pub within : count_of (length old) r ≤ length old
-  pub offsets : every (known starts) (take (count_of (length old) r) new) ≡ true
+  pub offsets : list_all (known starts) (take (count_of (length old) r) new) ≡ true
 
 -- some clause has no key at argument a
 unfoldable pub any_open : (ℕ → ℕ → Key) → ℕ → List ℕ → Bool
-any_open K a os = any_of (λ o. is_open (K o a)) os
+any_open K a os = list_any (λ o. is_open (K o a)) os
 
 -- a clause's key k is one of q's group, or equal to q
 abbrev pub alike : Bool → Key → Key → Bool
@@ -61,11 +61,11 @@ alike false q k = same k q
 
 -- the clauses whose key at argument a is one of q's group, or equal to q
 unfoldable pub like_to : (ℕ → ℕ → Key) → Bool → ℕ → Key → List ℕ → List ℕ
-like_to K group a q os = keep (λ o. alike group q (K o a)) os
+like_to K group a q os = filter (λ o. alike group q (K o a)) os
 
 -- every clause has the key k at argument a
 unfoldable pub all_same : (ℕ → ℕ → Key) → ℕ → Key → List ℕ → Bool
-all_same K a k os = every (λ o. same (K o a) k) os
+all_same K a k os = list_all (λ o. same (K o a) k) os
 
 -- a bucket of k clauses, o the first: an external pointer if it is one clause of a static line, else a line
 unfoldable pub entered_by : Bool → Step → ℕ → ℕ → Narrowed

@@ -1,10 +1,10 @@
 -- The walk, table by table (document 01, section 5).
 -- Assumes nothing.
 use Rattle.std.specs.Prelude.{Bool, true, not, cond, ◌&&◌, List, [], ◌∷◌, ℕ, zero, suc, ◌+◌, ◌-◌, eqb, length, drop}
+use Rattle.std.specs.List.{filter}
 use Rattle.std.proofs.Math.Option.{Option, none, some}
 use Rattle.indexing_iter.specs.declared.OptArgIndexKey.{OptArgIndexKey as Key}
 use Rattle.indexing_iter.specs.Keys.{group_of, is_open, same}
-use Rattle.indexing.specs.Lists.{keep}
 use Rattle.indexing.specs.Lines.{Ptr, ext, int, Entry, Table, switch, on_demand, dead, Index, line_at, offs, arg_of}
 use Rattle.indexing.specs.Build.{Program, open_at, later_tables, lone, virtual}
 use Rattle.indexing.specs.Expand.{expand_at, State, attempt}
@@ -40,7 +40,7 @@ module _ {X : Type 0} where
 
   -- section 5: the choice in a switch, among literals, structures or list by the key's sort
   abbrev pub choose : Program → Key → List (Entry X) → Option (Chosen X)
-  choose P q es = pick P q (keep (λ e. eqb (group_of q) (group_of e.key)) es)
+  choose P q es = pick P q (filter (λ e. eqb (group_of q) (group_of e.key)) es)
 
 -- section 5, where the walk is: a stored line, or a line that is not stored, by its clauses
 pub data Place : Type 0 where

@@ -1,9 +1,9 @@
 -- The witness's answer (document 01, section 5, "Added: a witness", and "What each call gives back").
 -- Assumes nothing.
 use Rattle.std.specs.Prelude.{◌≡◌, true, List, [], ◌∷◌, ℕ, eqb, Option, None, Some, Result, Ok, Err}
+use Rattle.std.specs.List.{list_any}
 use Rattle.indexing_iter.specs.declared.refusal.Refusal.{Refusal}
 use Rattle.indexing_iter.specs.Refusals.{Checked, refusal_number}
-use Rattle.indexing.specs.Lists.{any_of}
 
 -- what a witness answers: the offset of a clause, if one agrees, or a refusal
 abbrev pub Witnessed : Type 0
@@ -27,7 +27,7 @@ offset_in (Err e) = 0
 -- the answer of an accepted witness: none only if no clause agrees, else the offset of one that does
 abbrev pub IsWitness : List ℕ → Option ℕ → Type 0
 IsWitness os None = os ≡ []
-IsWitness os (Some o) = any_of (eqb o) os ≡ true
+IsWitness os (Some o) = list_any (eqb o) os ≡ true
 
 -- what a witness answers, by the checks and the offsets of the clauses that agree. Refused, it answers as the checks do; accepted, it answers
 -- the offset of one of these clauses, none if there is none. Which of them is left free

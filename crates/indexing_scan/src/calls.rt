@@ -2,7 +2,7 @@
 // A u32 becomes a usize by `as`, since there is no From for it: each is proved to fit.
 ghost use Rattle.std.specs.Prelude.{◌≡◌, ◌≤◌, length};
 ghost use Rattle.records.specs.Records.{records_of};
-ghost use Rattle.indexing.specs.Lists.{every};
+ghost use Rattle.std.specs.List.{list_all};
 ghost use Rattle.indexing.specs.Reading.{key_from};
 ghost use Rattle.indexing_scan.specs.Calls.{argument_ok, check_call, call_of, check_out};
 
@@ -29,7 +29,7 @@ fn argument_ok(r: Rec) -> bool
 
 // Whether every record of a call is right.
 fn arguments_ok(call: &[u8]) -> bool
-    ensures { result ≡ every argument_ok (records_of call.now) }
+    ensures { result ≡ list_all argument_ok (records_of call.now) }
 {
     (0..records::capacity(call)).all(|i| argument_ok(records::get(call, i)))
 }

@@ -17,7 +17,7 @@ use indexing_iter::group::Group;
 use records::Rec;
 
 // What a switch chose: nothing, the only entry of the group, or the equal key among several; with the entry's pointer.
-// Two cases have a pointer: document 01's path says which of them a table was.
+// Two cases have a pointer: choose_entry is public and promises which of them a table was (the path of document 02, A.10, tells it).
 #[derive(Clone, Copy, Debug, PartialEq, Eq)]
 pub enum Chosen {
     Nothing,
@@ -115,7 +115,7 @@ pub fn to_line(stored: &Stored, p: usize, d: u32) -> usize
         if left == 0 {
             return i;
         }
-        if records::get(stored.index, i).kind == Kind::Line as u8 {
+        if records::get(stored.index, i).kind == u8::from(Kind::Line) {
             left -= 1;
         }
     }

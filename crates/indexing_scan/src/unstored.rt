@@ -7,7 +7,7 @@ ghost use Rattle.std.specs.Prelude.{◌≡◌, Bool, true, false, [], ◌++◌, 
 ghost use Rattle.indexing_iter.specs.declared.OptArgIndexKey.{OptArgIndexKey};
 ghost use Rattle.indexing_iter.specs.Keys.{is_open};
 ghost use Rattle.indexing_iter.specs.Readings.{keys_by};
-ghost use Rattle.indexing.specs.Lists.{keep};
+ghost use Rattle.std.specs.List.{filter};
 ghost use Rattle.indexing.specs.Build.{open_at, virtual};
 ghost use Rattle.indexing_scan.specs.ByArgument.{move};
 ghost use Rattle.indexing_scan.specs.Readings.{predicate_of, AreClauses, answer_of};
@@ -86,7 +86,7 @@ fn keep_if<F: Fn(OptArgIndexKey) -> bool>(
     requires clauses_value { AreClauses program.now clauses.old }
     ensures few { result ≤ length clauses.old }
     ensures kept { (t : OptArgIndexKey → Bool) → Computes (F.post test) t
-        → let kept = keep (λ o. t (keys_by program.now o a)) clauses.old in
+        → let kept = filter (λ o. t (keys_by program.now o a)) clauses.old in
         (result ≡ length kept) × (clauses.new ≡ kept ++ drop result clauses.old) }
 {
     let mut k = 0;

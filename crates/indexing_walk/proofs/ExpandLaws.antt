@@ -5,17 +5,17 @@ use mathlib.Core.Bool.{Bool, true, false, cond}
 use mathlib.Core.List.{List, [], ◌∷◌, map}
 use Prim.Native.Nat.{ℕ, ◌+◌, ◌≤◌}
 use native.Mathlib.Omega.{arith}
+use Rattle.std.proofs.lemmas.Bool.{false≢true, leb-false, leb-true, true≢false}
+use Rattle.std.proofs.lemmas.List.Sums.{AllPass-from_list_all}
 use lib.Dec.{leb}
 use lib.ListN.{length, drop}
 use lib.Seq.{slice, take-take}
-use borrow.Author.Tests.{leb-true, leb-false}
 use Rattle.records.specs.Records.{records_of}
 use Rattle.records.proofs.Whole.{Bytes}
 use Rattle.indexing_iter.specs.declared.Settings.{Settings}
 use Rattle.indexing_iter.specs.Clauses.{known}
 use Rattle.indexing.proofs.BridgeGroups.{length-offs}
 use Rattle.indexing.proofs.Records.{before-place}
-use Rattle.indexing.proofs.Tests.{bool-absurd}
 use Rattle.indexing.specs.Builder.{capacity_of, stored}
 use Rattle.indexing.specs.Expanding.{tags_of}
 use Rattle.indexing.specs.Lines.{Choice, offs, size, mode_of, choice_rec}
@@ -31,7 +31,7 @@ use Rattle.indexing_scan.specs.Places.{At, first_offset, offsets_at}
 use Rattle.indexing_walk.specs.declared.Walking.{Walking}
 use Rattle.indexing_walk.specs.Walking.{off_at, grown_at, Stands, Went, WentBound}
 use Rattle.indexing_walk.proofs.StandLaws.{Ready, R, here, choices, orderly, AtDemand, range-arg, placed}
-use Rattle.indexing_walk.proofs.LineLaws.{at-offs, offs-count, offs-within, known-line, every-at, few-line}
+use Rattle.indexing_walk.proofs.LineLaws.{at-offs, offs-count, offs-within, known-line, few-line}
 use Rattle.indexing_walk.proofs.StoreLaws.{after, dem, went-stored, went-over}
 
 subs-choices : (cs : List Choice) → subs_of (map choice_rec cs) ≡ tags_of cs
@@ -90,7 +90,7 @@ module _ {code starts : List ℕ} {S : Settings} {b : List ℕ} {w : Walking} {a
       last = (range-arg due).1;
       offsets = el;
       tags-are = et;
-      known = subst (AllKnown starts) (sym el) (every-at (known starts) (offs (choices ready)) (known-line ready));
+      known = subst (AllKnown starts) (sym el) (λ i. AllPass-from_list_all (known starts) (offs (choices ready)) (known-line ready) i 0);
       few = omega (arith, ap length el, length-offs (choices ready), (few-line ready).1);
     }
 
@@ -107,8 +107,8 @@ module _ {code starts : List ℕ} {S : Settings} {b : List ℕ} {w : Walking} {a
             (subst (Went code starts S call b w (stored S.dynamic (after due) b))
             (sym (f ∙ ap₂ (grown_at w a) (ap (λ (o : Outcome). o.count) e) (ap (λ (o : Outcome). o.lines) e)))
             (went-stored due own bytes (leb-true (size (after due)) (capacity_of b) t) call on shut))
-        go (Some g) false t e = bool-absurd refl (ap (λ (o : Outcome). o.storing) e)
-        go None true t e = bool-absurd (ap (λ (o : Outcome). o.storing) e) refl
+        go (Some g) false t e = absurd (true≢false (ap (λ (o : Outcome). o.storing) e))
+        go None true t e = absurd (false≢true (ap (λ (o : Outcome). o.storing) e))
         go None false t e = λ u f call shut.
             subst (λ (y : List ℕ). Went code starts S call b w y u) (sym (ap (λ (o : Outcome). o.index) e))
             (subst (Went code starts S call b w b) (sym f) (went-over due (leb-false (size (after due)) (capacity_of b) t) call on shut))

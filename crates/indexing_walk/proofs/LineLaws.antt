@@ -3,12 +3,13 @@
 use mathlib.Core.Path.{◌≡◌, refl, ap, ◌∙◌}
 use mathlib.Core.Bool.{Bool, true, cond, ◌&&◌}
 use mathlib.Core.List.{List, [], ◌∷◌, ◌++◌, map}
-use Prim.Native.Nat.{ℕ, zero, suc, ◌+◌, ◌≤◌, ◌<◌}
-use native.Mathlib.Nat.{not-suc-le-zero}
+use Prim.Native.Nat.{ℕ, zero, suc, ◌+◌, ◌≤◌}
 use native.Mathlib.Omega.{arith}
+use Rattle.std.specs.List.{list_all, AllByRecursion}
+use Rattle.std.proofs.lemmas.Bool.{and_parts, ne_eqb}
+use Rattle.std.specs.Cmp.Derive.{both_true}
 use lib.Dec.{eqb, leb, ltb}
-use borrow.Author.Tests.{ne_eqb}
-use lib.ListN.{length, get_or, take, drop, length-append, length-drop, length-map}
+use lib.ListN.{length, take, drop, length-append, length-drop, length-map}
 use lib.Seq.{slice, length-take-le, take_at}
 use Rattle.records.specs.declared.Rec.{Rec}
 use Rattle.records.specs.Records.{records_of}
@@ -18,10 +19,7 @@ use Rattle.indexing_iter.specs.Clauses.{known}
 use Rattle.indexing_iter.proofs.CheckLaws.{code-offsets}
 use Rattle.indexing_iter.proofs.KeyLaws.{CodeOk, code_ok, known_small}
 use Rattle.indexing.proofs.BridgeGroups.{length-offs}
-use Rattle.indexing.proofs.Lists.{All}
 use Rattle.indexing.proofs.Reading.{FitLine}
-use Rattle.indexing.proofs.Tests.{and-true, both}
-use Rattle.indexing.specs.Lists.{every}
 use Rattle.indexing.specs.Lines.{line_at, offs, mode_of, choice_rec, records}
 use Rattle.well_formed.proofs.Sound.{fit-lines, index-good}
 use Rattle.well_formed.proofs.WellFormed.{lines_of}
@@ -39,22 +37,17 @@ use Rattle.indexing_walk.proofs.StandLaws.{Ready, program, R, here, choices, wit
 
 -- ---- offsets
 
-rising-known : (kn : ℕ → Bool) (n : ℕ) (os : List ℕ) → rising_ok kn n os ≡ true → every kn os ≡ true
+rising-known : (kn : ℕ → Bool) (n : ℕ) (os : List ℕ) → rising_ok kn n os ≡ true → list_all kn os ≡ true
 rising-known kn n [] e = refl
 rising-known kn n (o ∷ os) e =
-    let x = and-true (leb n o) (kn o && rising_ok kn (suc o) os) e in
-    let y = and-true (kn o) (rising_ok kn (suc o) os) x.1 in
-    both y.0 (rising-known kn (suc o) os y.1)
-
-pub every-at : (kn : ℕ → Bool) (os : List ℕ) → every kn os ≡ true → (i : ℕ) → i < length os → kn (get_or os i 0) ≡ true
-every-at kn [] e i h = absurd (not-suc-le-zero h)
-every-at kn (o ∷ os) e zero h = (and-true (kn o) (every kn os) e).0
-every-at kn (o ∷ os) e (suc i) h = every-at kn os (and-true (kn o) (every kn os) e).1 i (omega arith)
+    let x = and_parts (leb n o) (kn o && rising_ok kn (suc o) os) e in
+    let y = and_parts (kn o) (rising_ok kn (suc o) os) x.1 in
+    both_true y.0 (rising-known kn (suc o) os y.1)
 
 -- a list of the offsets of the walk's line
 pub record LineRead (starts b : List ℕ) (w : Walking) (list : List ℕ) : Type 0 where
   pub offsets : list ≡ offs (line_at (index_in b w.count) w.line).choices
-  pub known-all : every (known starts) list ≡ true
+  pub known-all : list_all (known starts) list ≡ true
   pub few : length list ≤ length starts
 
 module _ {code starts : List ℕ} {S : Settings} {b : List ℕ} {w : Walking} (ready : Ready code starts S b w) where
@@ -67,21 +60,21 @@ module _ {code starts : List ℕ} {S : Settings} {b : List ℕ} {w : Walking} (r
   pub some-clause : 1 ≤ length starts
   some-clause = ok.some
 
-  pub fit : All FitLine (here ready)
+  pub fit : AllByRecursion FitLine (here ready)
   fit = fit-lines (program ready) (known starts) (λ o k. omega (arith, known_small class_of S.arity code starts o k ready.checked)) (here ready)
       (index-good (program ready) (known starts) (here ready) ready.stands.sound)
 
   rising-line : rising_ok (known starts) 1 (offs (choices ready)) ≡ true
   rising-line =
-      let l = (and-true (ltb 0 (length (here ready))) (lines_ok S.arity S.dynamic (known starts) (here ready) 0 (here ready)) ready.stands.sound).1 in
+      let l = (and_parts (ltb 0 (length (here ready))) (lines_ok S.arity S.dynamic (known starts) (here ready) 0 (here ready)) ready.stands.sound).1 in
       let x = lines_of (program ready) (known starts) (here ready) 0 w.line (here ready) l ready.stands.place.line in
-      let y = and-true (args_ok S.arity 1 (line_at (here ready) w.line).tables)
-      (every (table_ok S.arity S.dynamic (known starts) (here ready) (0 + w.line)) (line_at (here ready) w.line).tables && choices_ok S.dynamic (known starts) (choices ready)) x in
-      let z = and-true (every (table_ok S.arity S.dynamic (known starts) (here ready) (0 + w.line)) (line_at (here ready) w.line).tables)
+      let y = and_parts (args_ok S.arity 1 (line_at (here ready) w.line).tables)
+      (list_all (table_ok S.arity S.dynamic (known starts) (here ready) (0 + w.line)) (line_at (here ready) w.line).tables && choices_ok S.dynamic (known starts) (choices ready)) x in
+      let z = and_parts (list_all (table_ok S.arity S.dynamic (known starts) (here ready) (0 + w.line)) (line_at (here ready) w.line).tables)
       (choices_ok S.dynamic (known starts) (choices ready)) y.1 in
-      (and-true (rising_ok (known starts) 1 (offs (choices ready))) (every (tag_ok S.dynamic) (choices ready) && some_ok S.dynamic (choices ready)) z.1).0
+      (and_parts (rising_ok (known starts) 1 (offs (choices ready))) (list_all (tag_ok S.dynamic) (choices ready) && some_ok S.dynamic (choices ready)) z.1).0
 
-  pub known-line : every (known starts) (offs (choices ready)) ≡ true
+  pub known-line : list_all (known starts) (offs (choices ready)) ≡ true
   known-line = rising-known (known starts) 1 (offs (choices ready)) rising-line
 
   pub few-line : (length (choices ready) ≤ length starts) × (length (choices ready) ≤ 1024)
@@ -135,7 +128,7 @@ module _ {code starts : List ℕ} {S : Settings} {b : List ℕ} {w : Walking} (r
       let x = offs-copied q (at-offs q refl) k new old e f in
       record {
         offsets = x;
-        known-all = ap (every (known starts)) x ∙ known-line;
+        known-all = ap (list_all (known starts)) x ∙ known-line;
         few = omega (arith, ap length x, length-offs (choices ready), few-line.0);
       }
 

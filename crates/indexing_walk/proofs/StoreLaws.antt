@@ -7,6 +7,7 @@ use mathlib.Core.List.{List, [], ◌∷◌}
 use mathlib.Core.Option.{some}
 use Prim.Native.Nat.{ℕ, ◌+◌, ◌-◌, ◌≤◌, ◌<◌}
 use native.Mathlib.Omega.{arith}
+use Rattle.std.specs.List.{AllByRecursion}
 use lib.Dec.{eqb}
 use lib.ListN.{length, get_or, take}
 use Rattle.records.specs.declared.Rec.{Rec}
@@ -20,7 +21,6 @@ use Rattle.indexing_iter.specs.Keys.{is_open}
 use Rattle.indexing_iter.proofs.KeyLaws.{code_ok, known_small}
 use Rattle.indexing.proofs.Expand.{opens, outcome, new-table, length-expand, expanded-arg}
 use Rattle.indexing.proofs.Grown.{grown-same, grown-more, grown-size}
-use Rattle.indexing.proofs.Lists.{All}
 use Rattle.indexing.proofs.Size.{lines-size}
 use Rattle.indexing.proofs.Stored.{capacity-small, stored-length, stored-capacity, stored-records, stored-over}
 use Rattle.indexing.specs.Builder.{capacity_of, stored}
@@ -95,7 +95,7 @@ module _ {code starts : List ℕ} {S : Settings} {b : List ℕ} {w : Walking} {a
     abbrev b' : List ℕ
     b' = stored S.dynamic after b
 
-    narrow : All NarrowLine after
+    narrow : AllByRecursion NarrowLine after
     narrow =
         narrow-expand (program ready) (λ o c. code-narrow class_of code starts o c own) (here ready) w.line a st.place.line
         (index-narrow mode 0 (here ready) (subst AllFit st.records-are (fit-take w.count (records_of b) (fit-records_of b bytes))))

@@ -7,6 +7,7 @@ use mathlib.Core.Option.{Option, none, some}
 use Prim.Native.Nat.{ℕ, ◌+◌, ◌-◌, ◌≤◌}
 use native.Mathlib.Numerals.{add-one}
 use native.Mathlib.Omega.{arith}
+use Rattle.std.proofs.lemmas.Bool.{both_ways}
 use lib.ListN.{length, get_or, take}
 use lib.Seq.{slice}
 use Rattle.records.specs.declared.Rec.{Rec}
@@ -15,7 +16,6 @@ use Rattle.indexing_iter.specs.declared.OptArgIndexKey.{OptArgIndexKey as Key}
 use Rattle.indexing_iter.specs.declared.Settings.{Settings}
 use Rattle.indexing_iter.specs.declared.program.Program.{Program as Checked}
 use Rattle.indexing_iter.specs.Keys.{is_open}
-use Rattle.indexing.proofs.Tests.{bool-absurd}
 use Rattle.indexing.specs.Builder.{capacity_of}
 use Rattle.indexing.specs.Lines.{Ptr, ext, int, Table, switch, on_demand, dead, arg_of, line_at, offs, size, mode_of}
 use Rattle.indexing_scan.proofs.ExpandedLaws.{at-fits}
@@ -56,7 +56,7 @@ pub record Some (ts : List Table) (a : ℕ) : Type 0 where
 module _ {code starts : List ℕ} {S : Settings} {b : List ℕ} {w : Walking} (ready : Ready code starts S b w) where
   -- some table is left where a table's record stands
   pub some-table : (ts : List Table) → At (mode_of S.dynamic) (here ready) (R ready) w.line ts w.at → is_table (get_or (R ready) w.at zero_rec).kind ≡ true → Some ts (get_or (R ready) w.at zero_rec).half
-  some-table [] at e = bool-absurd e (at_none at)
+  some-table [] at e = absurd (both_ways _ (at_none at) e)
   some-table (switch a es ∷ ts) at e = record { table = switch a es; later = ts; is = refl; arg = sym (ap (λ (r : Rec). r.half) (at-record at)) }
   some-table (on_demand a ∷ ts) at e = record { table = on_demand a; later = ts; is = refl; arg = sym (ap (λ (r : Rec). r.half) (at-record at)) }
   some-table (dead a os ∷ ts) at e = record { table = dead a os; later = ts; is = refl; arg = sym (ap (λ (r : Rec). r.half) (at-record at)) }

@@ -7,13 +7,13 @@ use mathlib.Core.Option.{Option, none, some}
 use Prim.Native.Nat.{ℕ, suc, ◌+◌, ◌-◌, ◌≤◌, ◌<◌}
 use native.Mathlib.Numerals.{add-one}
 use native.Mathlib.Omega.{arith}
+use Rattle.std.proofs.lemmas.Bool.{eq-eqb, ne_eqb}
 use lib.ListN.{length}
 use Rattle.records.specs.declared.Rec.{Rec}
 use Rattle.indexing_iter.specs.Keys.{is_open}
 use Rattle.indexing_iter.specs.declared.OptArgIndexKey.{OptArgIndexKey as Key}
 use Rattle.indexing.proofs.Expand.{opens, outcome}
 use Rattle.indexing.proofs.Order.{Args, Beyond, beyond-ext, beyond-int, Orderly}
-use Rattle.indexing.proofs.Tests.{eqb_same, eqb-other}
 use Rattle.indexing.specs.Build.{Program}
 use Rattle.indexing.specs.Expand.{expanded, expand, State}
 use Rattle.indexing.specs.Lines.{Ptr, ext, int, Entry, Table, switch, on_demand, arg_of, Index, line_at, find, size}
@@ -49,7 +49,7 @@ pub left-next : (P : Program) (idx : Index) (p : Place) (b : ℕ) (u : Table) (t
 left-next P idx p b u ts l = rw (add-one (arg_of u)) (record {
   args = l.args.2;
   looks = λ c x y.
-      sym (ap (λ (z : Bool). cond z (some u) (find c ts)) (eqb-other {m = arg_of u} {n = c} (omega arith)))
+      sym (ap (λ (z : Bool). cond z (some u) (find c ts)) (ne_eqb (arg_of u) c (omega arith)))
       ∙ l.looks c (omega (arith, l.args.0)) y;
 })
 
@@ -57,7 +57,7 @@ left-next P idx p b u ts l = rw (add-one (arg_of u)) (record {
 find-on : (M n c : ℕ) (us : List Table) (t : Table) (ts : List Table) → Args M n (us ++ (t ∷ ts)) → arg_of t ≤ c → find c (us ++ (t ∷ ts)) ≡ find c (t ∷ ts)
 find-on M n c [] t ts r h = refl
 find-on M n c (u ∷ us) t ts r h =
-    rw (eqb-other {m = arg_of u} {n = c} (omega (arith, below (suc (arg_of u)) us r.2))) (find-on M (suc (arg_of u)) c us t ts r.2 h)
+    rw (ne_eqb (arg_of u) c (omega (arith, below (suc (arg_of u)) us r.2))) (find-on M (suc (arg_of u)) c us t ts r.2 h)
   where
     below : (n : ℕ) (us : List Table) → Args M n (us ++ (t ∷ ts)) → n ≤ arg_of t
     below n [] r = r.0
@@ -111,7 +111,7 @@ module _ (P : Program) where
   -- the table found for u's argument, and what it does there
   pub found : (idx : Index) (l b : ℕ) (u : Table) (ts : List Table) → Left P idx (line l) b (u ∷ ts) → find (arg_of u) (line_at idx l).tables ≡ some u
   found idx l b u ts f =
-      let e : find (arg_of u) (u ∷ ts) ≡ some u = rw (eqb_same (arg_of u)) in
+      let e : find (arg_of u) (u ∷ ts) ≡ some u = rw (eq-eqb (arg_of u) _ refl) in
       sym (f.looks (arg_of u) f.args.0 f.args.1) ∙ e
 
   pub move-is : (idx : Index) (l b : ℕ) (q : Key) (u : Table) (ts : List Table) → Left P idx (line l) b (u ∷ ts)
@@ -144,7 +144,7 @@ module _ (P : Program) where
         none_below : (m n b : ℕ) (ts : List Table) → Args m n ts → b < n → find b ts ≡ none
         none_below m n b [] r h = refl
         none_below m n b (t ∷ ts) r h =
-            rw (eqb-other {m = arg_of t} {n = b} (omega (arith, r.0))) (none_below m (suc (arg_of t)) b ts r.2 (omega (arith, r.0)))
+            rw (ne_eqb (arg_of t) b (omega (arith, r.0))) (none_below m (suc (arg_of t)) b ts r.2 (omega (arith, r.0)))
 
     acted : (W : Result) (k : ℕ) (s : State) (l a : ℕ) (m : Move)
         → Comes W k (act (result 0 s) look_at a (line l) m (λ v. walk_from P cap Q (P.arity + 1 - (a + 1)) (a + 1) s v)) → Turns W k s l a m

@@ -2,7 +2,8 @@
 // (query, index, w, list, tags) are no struct: index, list and tags are lent to be written in each turn, and the walk is a value that a turn gives back.
 // A struct of the lent buffers would make each contract speak of the states of its fields.
 // is_open q ≡ false is asked of turn_bound and turn_unstored: turn has looked whether the call's key is bound.
-// w.count ≤ length (records_of index) is asked by functions that read index: a Walking is a value of the definitions and holds no index.
+// w.count ≤ length (records_of index) is asked by functions that read index: a Walking is a value of the definitions and holds no index. A Stored in place
+// of index would be asked to have w's count.
 // a ≤ 64 and w.tables ≤ 64 are asked where one is added to them: both are numbers of the definitions (see Walking).
 ghost use Rattle.std.specs.Prelude.{◌≡◌, ◌+◌, ◌≤◌, ◌<◌, length, drop, cond, true, false, ◌++◌, eqb};
 ghost use Rattle.std.proofs.Math.Seq.{slice};

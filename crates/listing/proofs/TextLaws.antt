@@ -1,30 +1,16 @@
 -- Text put before a place from its last byte back. Assumes nothing.
 use mathlib.Core.Path.{◌≡◌, refl, sym, ap, ◌∙◌}
-use Prim.Native.Nat.{ℕ, zero, suc, ◌+◌, ◌-◌, ◌/◌, ◌%◌, ◌≤◌, ◌<◌}
-use native.Mathlib.Nat.{not-suc-le-zero, le_of_suc-le-suc}
+use Prim.Native.Nat.{ℕ, suc, ◌+◌, ◌-◌, ◌/◌, ◌%◌, ◌≤◌, ◌<◌}
 use native.Mathlib.Numerals.{add-one}
 use native.Mathlib.Omega.{arith}
 use mathlib.Core.List.{List, [], ◌∷◌}
 use borrow.Author.Tests.{eq-eqb, ne_eqb}
 use lib.ListN.{length, get_or, drop, set, drop_of_length-le}
 use lib.Seq.{drop-cons}
+use Rattle.std.proofs.lemmas.List.{drop-set}
 use Rattle.records.specs.declared.Rec.{Rec}
 use Rattle.records.specs.Records.{zero_rec}
 use Rattle.listing.specs.Text.{digits, decimal, line_of, lines_of}
-
--- a byte written stands before what follows it
-drop-put : (text : List ℕ) (i x : ℕ) → i < length text → drop i (set text i x) ≡ x ∷ drop (i + 1) text
-drop-put [] i x h = absurd (not-suc-le-zero h)
-drop-put (t ∷ ts) zero x h = refl
-drop-put (t ∷ ts) (suc i) x h =
-    let e : suc (i + 1) ≡ suc i + 1 = omega arith in
-    drop-put ts i x (le_of_suc-le-suc h) ∙ ap (λ (k : ℕ). x ∷ drop k (t ∷ ts)) e
-
--- the same before a place
-pub put-before : (text : List ℕ) (i x : ℕ) → 1 ≤ i → i ≤ length text → drop (i - 1) (set text (i - 1) x) ≡ x ∷ drop i text
-put-before text i x h l =
-    let e : i - 1 + 1 ≡ i = omega arith in
-    drop-put text (i - 1) x (omega arith) ∙ ap (λ (k : ℕ). x ∷ drop k text) e
 
 -- a turn that writes the first digit
 pub digits_last : (k n : ℕ) (text : List ℕ) → n / 10 ≡ 0 → digits (suc k) n text ≡ (48 + n % 10) ∷ text
@@ -67,7 +53,9 @@ lines_none rs i h = rw (drop_of_length-le rs h) refl
 -- the two turns of a number's loop, on the text
 module _ (text : List ℕ) (least i n : ℕ) (h : least < i) (l : i ≤ length text) where
   put_is : drop (i - 1) (set text (i - 1) (48 + n % 10)) ≡ (48 + n % 10) ∷ drop i text
-  put_is = put-before text i (48 + n % 10) (omega arith) l
+  put_is =
+      let e : i - 1 + 1 ≡ i = omega arith in
+      drop-set text (i - 1) (48 + n % 10) (omega arith) ∙ ap (λ (k : ℕ). (48 + n % 10) ∷ drop k text) e
 
   pub turn_last : n / 10 ≡ 0 → digits (i - least) n (drop i text) ≡ drop (i - 1) (set text (i - 1) (48 + n % 10))
   turn_last z =

@@ -16,7 +16,7 @@ use Rattle.indexing_iter.specs.declared.InstructionArg.{InstructionArg}
 use Rattle.indexing_iter.specs.declared.InstructionArg.TheVariants.{ArgedHead, ArglessHead, NonHead, Prologue}
 use Rattle.indexing_iter.specs.declared.OptArgIndexKey.{OptArgIndexKey}
 use Rattle.indexing_iter.specs.Refusals.{Checked, passed, refusal_number, number_of}
-use Rattle.std.specs.Prelude.{Ok, Err}
+use Rattle.std.specs.Prelude.{Some, Ok, Err}
 use Rattle.indexing_iter.specs.declared.refusal.Refusal.{Refusal}
 use Rattle.indexing_iter.specs.declared.refusal.Refusal.TheVariants.{Arity, ChosenArgument, CodeSize, Starts, NoBody, KeyRecord, Register, OpenClause, NoRoom, Call, Out, Index}
 use Rattle.indexing_iter.specs.declared.Fault.{Fault}
@@ -24,7 +24,7 @@ use Rattle.indexing_iter.specs.Classes.{instruction_arg}
 use Rattle.indexing_iter.specs.Keys.{key_in, is_open}
 use Rattle.indexing_iter.specs.Clauses.{end_of, clauses_of}
 use Rattle.indexing_iter.specs.Checks.{otherwise, refuse, is_body, has_body, record_bad, register_bad, register_step, check_records, check_clause, check_clauses, open_somewhere}
-use Rattle.indexing_iter.specs.Faults.{first_at, is_refused, refused_at, open_at, body_at, record_for, clause_for, bare, fault_at, fault_by, fault_in, check_with, fault_of}
+use Rattle.indexing_iter.specs.Faults.{first_at, is_refused, refused_at, open_at, body_at, record_for, clause_for, bare, place_in, fault_at, fault_by, fault_in, check_with, fault_of}
 use Rattle.indexing_iter.proofs.CheckLaws.{start_below, end_below, rising-drop}
 use Rattle.indexing_iter.proofs.Numbers.{Within, records-number, clause-number}
 use Rattle.locate.specs.Inner.{check_front}
@@ -151,7 +151,7 @@ module _ (cls : ℕ → ℕ) (arity c : ℕ) (code starts : List ℕ) where
   cs = clauses_of rs starts
 
   abbrev placed : Refusal → ℕ → ℕ → Fault
-  placed e k i = record { refusal = e; clause = k; at = get_or starts k 0 + i }
+  placed e k i = record { refusal = e; place = Some (place_in starts k i) }
 
   below-five : (e : Refusal) (i : ℕ) → check_with cls arity c code starts ≡ Err e → refusal_number e < 5 → FirstAtFault cls arity c code starts (bare e) i
   below-five e i f h =

@@ -1,6 +1,6 @@
 -- What a fault says: its refusal is the checks', its clause is the first at fault, and its record the first of that clause (proofs/First, `first-at-fault`).
 -- Assumes nothing.
-use Rattle.std.specs.Prelude.{ℕ, suc, ◌+◌, ◌≤◌, ◌<◌, ◌≡◌, true, false, List, [], length, get_or, take, Option, None, Some, Err}
+use Rattle.std.specs.Prelude.{ℕ, suc, ◌+◌, ◌≤◌, ◌<◌, ◌≡◌, true, false, List, [], length, get_or, take, Option, None, Some, Err, IsSomeAnd}
 use Rattle.records.specs.declared.Rec.{Rec}
 use Rattle.records.specs.Records.{records_of, zero_rec}
 use Rattle.indexing_iter.specs.declared.refusal.Refusal.{Refusal}
@@ -33,16 +33,18 @@ FirstBad cls arity rs i e = (i < length rs) × (check_records cls arity (take i 
 abbrev pub FirstBody : (ℕ → ℕ) → List Rec → ℕ → Type 0
 FirstBody cls rs i = (i < length rs) × (has_body cls (take i rs) ≡ false) × (is_body (instruction_arg cls (get_or rs i zero_rec)) ≡ true)
 
--- a fault of the code, i its record counted from the start of its clause
+-- a fault of the code, i its record counted from the start of its clause; with 5 to 8 there is a place, and it is the first
 pub record FirstAtFault (cls : ℕ → ℕ) (arity c : ℕ) (code starts : List ℕ) (f : Fault) (i : ℕ) : Type 0 where
   pub number_is : check_with cls arity c code starts ≡ Err f.refusal
   pub no-clause : refusal_number f.refusal < 5 → f ≡ bare f.refusal
-  pub clause-refused : 5 ≤ refusal_number f.refusal → refusal_number f.refusal ≤ 7 → FirstRefused cls arity (clauses_of (records_of code) starts) f.clause f.refusal
-  pub clause-open : 8 ≤ refusal_number f.refusal → FirstOpen cls arity c (clauses_of (records_of code) starts) f.clause
-  pub record-at : 5 ≤ refusal_number f.refusal → f.at ≡ get_or starts f.clause 0 + i
-  pub record-last : refusal_number f.refusal ≡ 5 → LastOf cls (get_or (clauses_of (records_of code) starts) f.clause []) i
-  pub record-bad : 6 ≤ refusal_number f.refusal → refusal_number f.refusal ≤ 7 → FirstBad cls arity (get_or (clauses_of (records_of code) starts) f.clause []) i f.refusal
-  pub record-body : 8 ≤ refusal_number f.refusal → FirstBody cls (get_or (clauses_of (records_of code) starts) f.clause []) i
+  pub clause-refused : 5 ≤ refusal_number f.refusal → refusal_number f.refusal ≤ 7
+      → IsSomeAnd f.place (λ p. FirstRefused cls arity (clauses_of (records_of code) starts) p.clause f.refusal)
+  pub clause-open : 8 ≤ refusal_number f.refusal → IsSomeAnd f.place (λ p. FirstOpen cls arity c (clauses_of (records_of code) starts) p.clause)
+  pub record-at : 5 ≤ refusal_number f.refusal → IsSomeAnd f.place (λ p. p.at ≡ get_or starts p.clause 0 + i)
+  pub record-last : refusal_number f.refusal ≡ 5 → IsSomeAnd f.place (λ p. LastOf cls (get_or (clauses_of (records_of code) starts) p.clause []) i)
+  pub record-bad : 6 ≤ refusal_number f.refusal → refusal_number f.refusal ≤ 7
+      → IsSomeAnd f.place (λ p. FirstBad cls arity (get_or (clauses_of (records_of code) starts) p.clause []) i f.refusal)
+  pub record-body : 8 ≤ refusal_number f.refusal → IsSomeAnd f.place (λ p. FirstBody cls (get_or (clauses_of (records_of code) starts) p.clause []) i)
 
 -- what is told of the code: nothing where no check refuses it, else the first at fault
 abbrev pub NoneOrFirst : (ℕ → ℕ) → ℕ → ℕ → List ℕ → List ℕ → Option Fault → ℕ → Type 0

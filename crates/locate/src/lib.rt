@@ -5,28 +5,28 @@
 // A u32 becomes a usize by `as`: there is no From for it.
 #![tactic(auto)]
 
-ghost use Rattle.std.specs.Prelude.{◌≡◌};
+ghost use Rattle.std.specs.Prelude.{◌≡◌, IfOk};
 ghost use Rattle.records.specs.Records.{records_of};
 ghost use Rattle.indexing_iter.specs.Classes.{class_of};
 ghost use Rattle.indexing_iter.specs.Readings.{class_by, clauses_by};
 ghost use Rattle.indexing_iter.specs.Checks.{check_keyed};
 ghost use Rattle.indexing_iter.specs.Faults.{open_at, bare, fault_in, fault_of};
 ghost use Rattle.indexing_iter.specs.Places.{at_clause};
+ghost use Rattle.indexing_iter.specs.Programs.{checked_of};
 ghost use Rattle.locate.specs.Inner.{check_chosen_with, check_front, check_back};
 
 use indexing_iter::clauses::Clauses;
 use indexing_iter::reader::Reader;
 use indexing_iter::refusal::Refusal;
-use indexing_iter::{Fault, checks};
+use indexing_iter::{Fault, Place, checks};
 
-// A refusal of which no clause is told.
+// A refusal of which no place is told.
 fn bare(refusal: Refusal) -> Fault
     ensures { result ≡ bare refusal }
 {
     Fault {
         refusal,
-        clause: 0,
-        at: 0,
+        place: None,
     }
 }
 
@@ -37,10 +37,10 @@ fn first_open(c: &Clauses, j: u32) -> Option<Fault>
     let k = checks::first_open(c, j)?;
     let clause = c.clause(k);
     let at = checks::body_at(&clause).unwrap_or(records::capacity(clause.code));
+    let at = c.starts[k] as usize + at;
     Some(Fault {
         refusal: Refusal::OpenClause,
-        clause: k,
-        at: c.starts[k] as usize + at,
+        place: Some(Place { clause: k, at }),
     })
 }
 
@@ -68,30 +68,31 @@ fn check_chosen_with(arity: u32, c: u64) -> Result<(), Refusal>
     checks::check_chosen(arity, c)
 }
 
-// 1 to 4, 2 only if c is not 0.
-fn check_front(code: &[u8], starts: &[u32], arity: u32, c: u64) -> Result<(), Refusal>
-    ensures { result ≡ check_front arity c code.now starts.now }
+// 1 to 4, 2 only if c is not 0: the clauses, where none applies.
+fn check_front<'r, 's>(
+    reader: &Reader<'r>,
+    starts: &'s [u32],
+    arity: u32,
+    c: u64,
+) -> Result<Clauses<'r, 's>, Refusal>
+    ensures value { checked_of result ≡ check_front arity c reader.now.code.now starts.now }
+    ensures made { IfOk result (λ l. (l.reader ≡ reader.now) × (l.starts.now ≡ starts.now) × (l.arity ≡ arity)) }
 {
     check_chosen_with(arity, c)?;
-    checks::check_size(code)?;
-    checks::check_starts(starts, code.len() / 16)
+    Clauses::check(reader, starts, arity)
 }
 
 // What refuses the code with its starts, and where; c is the chosen argument, 0 for none. It tells and never refuses.
 pub fn locate(code: &[u8], starts: &[u32], arity: u32, c: u64) -> Option<Fault>
     ensures { result ≡ fault_of class_of arity c code.now starts.now }
 {
-    if let Err(refusal) = check_front(code, starts, arity, c) {
-        return Some(bare(refusal));
-    }
-    let clauses = Clauses {
-        reader: Reader {
-            table: &indexing_iter::classes(),
-            code,
-        },
-        starts,
-        arity,
+    let reader = Reader {
+        table: &indexing_iter::classes(),
+        code,
     };
-    // c is at most the arity, or 0: a try_from would have a refusal that cannot come.
-    locate_back(&clauses, c as u32)
+    match check_front(&reader, starts, arity, c) {
+        // c is at most the arity, or 0: a try_from would have a refusal that cannot come.
+        Ok(clauses) => locate_back(&clauses, c as u32),
+        Err(refusal) => Some(bare(refusal)),
+    }
 }

@@ -1,18 +1,15 @@
 -- The face for C and Rust: settings from numbers, and each outcome's numbers in the order in which they stand in the lent array.
 -- Assumes nothing.
-use Rattle.std.specs.Prelude.{◌≡◌, ℕ, ◌-◌, Bool, List, [], ◌∷◌, ◌++◌, length, take, drop, replicate, Option, None, Some, Result, Ok, Err}
+use Rattle.std.specs.Prelude.{◌≡◌, ℕ, ◌-◌, List, [], ◌∷◌, ◌++◌, length, take, drop, replicate, Option, None, Some, Result, Ok, Err}
 use Rattle.indexing_iter.specs.declared.Settings.{Settings}
 use Rattle.indexing_iter.specs.declared.refusal.Refusal.{Refusal}
-use Rattle.indexing_iter.specs.Flags.{flag_in, settings_by_flags}
+use Rattle.indexing_iter.specs.Flags.{settings_by_flags}
 use Rattle.indexing_iter.specs.Refusals.{Checked, refusal_number}
 use Rattle.indexing_iter.specs.declared.Fault.{Fault}
+use Rattle.indexing_iter.specs.declared.Place.{Place}
 use Rattle.indexing.specs.Builder.{Built, Sized}
 use Rattle.indexing_scan.specs.Calls.{Walked}
 use Rattle.indexing_scan.specs.Witness.{Witnessed, number_in, offset_in, Witnesses}
-
--- the flag whose value is k
-abbrev pub flag_of : ℕ → ℕ → Bool
-flag_of = flag_in
 
 -- flags 1 dynamic, 2 extensible, 4 non-counted, 8 skip; others are not read
 abbrev pub settings_by : ℕ → ℕ → ℕ → Settings
@@ -28,9 +25,14 @@ built_numbers b = b.number ∷ b.count ∷ b.variable ∷ []
 abbrev pub sized_numbers : Sized → List ℕ
 sized_numbers z = z.number ∷ z.count ∷ []
 
+-- clause and record, zeros where no place is told
+abbrev pub place_numbers : Option Place → List ℕ
+place_numbers None = 0 ∷ 0 ∷ []
+place_numbers (Some p) = p.clause ∷ p.at ∷ []
+
 abbrev pub fault_numbers : Option Fault → List ℕ
 fault_numbers None = 0 ∷ 0 ∷ 0 ∷ []
-fault_numbers (Some f) = refusal_number f.refusal ∷ f.clause ∷ f.at ∷ []
+fault_numbers (Some f) = refusal_number f.refusal ∷ place_numbers f.place
 
 abbrev pub walked_numbers : Walked → List ℕ
 walked_numbers w = w.number ∷ w.case ∷ w.line ∷ w.count ∷ w.tables ∷ w.mark ∷ w.records ∷ []

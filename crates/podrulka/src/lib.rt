@@ -2,7 +2,7 @@
 // include/podrulka.h declares the functions and says what each number means.
 // In podrulka_build, podrulka_size, podrulka_locate, podrulka_walk and podrulka_witness code, starts, arity, mask, flags, c and buffers stand one by one,
 // an index with its record count beside it, a result as numbers: the C interface.
-// A usize is made a u64, and a walk's case its number, by `as`: From makes neither.
+// A usize is made a u64 by `as`: there is no From for it.
 #![tactic(auto)]
 
 ghost use Rattle.std.specs.Prelude.{◌≡◌, [], ◌∷◌, ◌≤◌};
@@ -77,7 +77,7 @@ fn walked_values(e: Ended) -> [u64; 7]
     let mark = u64::from(!e.whole);
     [
         0,
-        e.case as u64,
+        u64::from(e.case),
         u64::from(e.line),
         e.count as u64,
         u64::from(e.tables),
@@ -86,17 +86,17 @@ fn walked_values(e: Ended) -> [u64; 7]
     ]
 }
 
-// The values of a fault, zeros where there is none.
+// The values of a fault, zeros where there is none, and where it has no place.
 fn fault_values(fault: Option<Fault>) -> [u64; 3]
     ensures { result ≡ fault_numbers fault }
 {
-    match fault {
-        Some(f) => [
-            u64::from(u32::from(f.refusal)),
-            f.clause as u64,
-            f.at as u64,
-        ],
-        None => [0; 3],
+    let Some(f) = fault else {
+        return [0; 3];
+    };
+    let number = u64::from(u32::from(f.refusal));
+    match f.place {
+        Some(p) => [number, p.clause as u64, p.at as u64],
+        None => [number, 0, 0],
     }
 }
 

@@ -71,13 +71,6 @@ pub fn part(index: &[u8], from: usize, to: usize) -> &[u8]
     &index[16 * from..16 * to]
 }
 
-// A record of zeros.
-pub fn zeros() -> Rec
-    ensures { result ≡ zero_rec }
-{
-    Rec::default()
-}
-
 // The record at place p of the first n records, or one of zeros behind them.
 pub fn record_in(index: &[u8], n: usize, p: usize) -> Rec
     requires { n ≤ length (records_of index.now) }
@@ -86,7 +79,7 @@ pub fn record_in(index: &[u8], n: usize, p: usize) -> Rec
     if p < n {
         return get(index, p);
     }
-    zeros()
+    Rec::default()
 }
 
 // Reads the words of the records from a place on, as many as words has places.

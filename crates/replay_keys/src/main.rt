@@ -137,7 +137,7 @@ fn run_cases(input: &[u8]) {
 fn show_records(code: &mut [u8])
     requires { 32 ≤ length code.old }
 {
-    let n = code.len() / 16;
+    let n = records::capacity(code);
     let last = code.len() - 16;
     code[0] = 17;
     code[4] = 1;

@@ -52,8 +52,8 @@ fn heard(input: &[u8]) -> &[u8]
     input
 }
 
-// A missing record is one of zeros and no None, as in the definitions: each of its fields is then read as 0, which is what the plan says without it.
-// The record at a place where it is that part; else, and past the end, a record of zeros.
+// The record at a place where it is that part; else, and past the end, a record of zeros. A missing record is no None, as a 242 of zeros stands for it
+// (docs/DECISIONS.md): each field of the plan is read as 0 then.
 fn record_of(input: &[u8], part: Part, at: usize) -> Rec
     ensures { result ≡ record_of (part_kind part) (records_of input.now) at }
 {
@@ -62,7 +62,7 @@ fn record_of(input: &[u8], part: Part, at: usize) -> Rec
     if r.kind == u8::from(part) {
         return r;
     }
-    records::zeros()
+    Rec::default()
 }
 
 // The record 243 at a place, where an index is handed in.
@@ -72,10 +72,10 @@ fn given_of(input: &[u8], handed: bool, at: usize) -> Rec
     if handed {
         return record_of(input, Part::Given, at);
     }
-    records::zeros()
+    Rec::default()
 }
 
-// How many places a record takes that may be missing.
+// How many places a record takes that may be missing: kind 0 is no part's, and tells that it is.
 fn place_of(r: Rec) -> usize
     ensures { result ≡ place_of r }
 {

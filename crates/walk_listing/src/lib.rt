@@ -146,8 +146,8 @@ fn print_walk(a: Result<Ended, Refusal>, index: &[u8], capacity: usize, out: &[u
     }
 }
 
-// The calls in order, each with the index, the count and out that the one before left. Answers the last count. The loop goes over call numbers: there is
-// no slice of records.
+// The calls in order, each with the index, the count and out that the one before left. Answers the last count. The loop goes over call
+// numbers and carries index, count and out from call to call.
 fn print_calls(
     input: &[u8],
     index: &mut [u8; 1048560],

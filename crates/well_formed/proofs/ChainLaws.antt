@@ -6,14 +6,13 @@ use mathlib.Core.List.{List, [], ◌∷◌}
 use Prim.Native.Nat.{ℕ, zero, suc, ◌+◌, ◌-◌, ◌≤◌, ◌<◌}
 use native.Mathlib.Decide.{ℕ_discrete}
 use native.Mathlib.Omega.{arith}
-use borrow.Author.Tests.{eqb-true, eqb-false}
+use Rattle.std.proofs.lemmas.Bool.{and_parts, eqb-false, eqb-true}
 use lib.Dec.{eqb}
 use native.Mathlib.Numerals.{add-one}
 use lib.ListN.{length, get_or, drop, drop_of_length-le}
 use Rattle.records.specs.declared.Rec.{Rec}
 use Rattle.records.specs.Records.{zero_rec}
 use Rattle.indexing.specs.Chains.{Chained, Cleared}
-use Rattle.indexing.proofs.Tests.{and-true}
 use Rattle.indexing.proofs.Chains.{chained-none}
 use Rattle.well_formed.specs.Pass.{same_fields, among, distinct_keys}
 use Rattle.well_formed.specs.Chains.{bucket_of, in_bucket}
@@ -25,8 +24,8 @@ use Rattle.well_formed.proofs.KeyParts.{drop_back, distinct-step, distinct_none}
 same-bucket : (size : ℕ) (r q : Rec) → same_fields r q ≡ true → bucket_of size r ≡ bucket_of size q
 unfolding same_fields bucket_of
 same-bucket size r q e =
-    let x = and-true (eqb r.sub q.sub) (eqb r.half q.half && eqb r.long q.long) e in
-    let y = and-true (eqb r.half q.half) (eqb r.long q.long) x.1 in
+    let x = and_parts (eqb r.sub q.sub) (eqb r.half q.half && eqb r.long q.long) e in
+    let y = and_parts (eqb r.half q.half) (eqb r.long q.long) x.1 in
     rw (eqb-true r.sub q.sub x.0, eqb-true r.half q.half y.0, eqb-true r.long q.long y.1)
 
 -- so entries of other buckets have other keys

@@ -1,13 +1,16 @@
 -- The fields of an index's records are in their ranges: of the built index, of one that is read from a buffer, and of each that comes of them by
 -- expansions that fit.
 -- Assumes nothing.
-use mathlib.Core.Path.{◌≡◌, refl}
+use mathlib.Core.Path.{◌≡◌}
 use mathlib.Core.Bool.{Bool, true, false, cond, not, ◌&&◌}
 use mathlib.Core.List.{List, [], ◌∷◌, ◌++◌, map}
 use mathlib.Core.Option.{Option, none, some}
 use Prim.Native.Nat.{ℕ, zero, suc, ◌+◌, ◌-◌, ◌≤◌, ◌<◌}
 use native.Mathlib.Omega.{arith}
-use lib.Dec.{eqb, leb, ltb, ltb→lt}
+use Rattle.std.specs.List.{filter, list_all, list_any, AllByRecursion}
+use Rattle.std.proofs.lemmas.Bool.{and_parts, false≢true, leb-true, ltb-true}
+use Rattle.std.proofs.lemmas.List.Elements.{All-from_recursion}
+use lib.Dec.{eqb, leb, ltb}
 use lib.ListN.{length, take, drop, set}
 use lib.Seq.{slice, get_or-drop}
 use Rattle.records.specs.declared.Rec.{Rec}
@@ -24,15 +27,13 @@ use Rattle.indexing_iter.specs.Keys.{sort_of, arity_of, bits_of, group_of, same,
 use Rattle.indexing.proofs.Built.{built-is-expanded}
 use Rattle.indexing.proofs.Expand.{opens, outcome, grown, expand-is, Later, later-none, later-demand, later-dead, later-view}
 use Rattle.indexing.proofs.Grown.{Grown, grown-same, grown-more}
-use Rattle.indexing.proofs.Lists.{All, all_append, all_keep, all_set, all_in, all-distinct}
-use Rattle.indexing.proofs.Tests.{bool-absurd, true-T, and-true, le_of}
+use Rattle.indexing.proofs.Lists.{all_append, all_keep, all_set, all-distinct}
 use Rattle.indexing.specs.Build.{Program, cons_opt, cons_line, after, later_tables, new_line, keys_at, literals, lists, structures, bucket_of, lone}
 use Rattle.indexing.specs.Build.{open_at, lines_for, entries_for, build}
 use Rattle.indexing.specs.Expand.{expanded, added, expand}
 use Rattle.indexing.specs.Seed.{seed}
 use Rattle.indexing.specs.Lines.{Ptr, ext, int, Entry, Table, switch, on_demand, dead, Choice, Line, Index, no_line, line_at, offs, arg_of, swap, word}
 use Rattle.indexing.specs.Lines.{entry_rec, dead_rec, table_recs, tables_recs, choice_rec, mode_of, line_rec, records}
-use Rattle.indexing.specs.Lists.{keep, any_of, every}
 use Rattle.well_formed.specs.WellFormed.{rising_ok, args_ok, key_ok, keys_ok, entry_keys, tag_ok, some_ok, choices_ok, pointer_ok, table_ok, line_ok, lines_ok, index_ok}
 use Rattle.well_formed.proofs.SwitchKeys.{keys-parts}
 
@@ -107,40 +108,42 @@ code-narrow cls code starts o a f = narrow-in cls (clause_at (records_of code) s
 -- ---- the keys of the switches are those of the code
 
 abbrev NarrowTable : Table → Type 0
-NarrowTable (switch a es) = All (λ (e : Entry Ptr). Narrow e.key) es
+NarrowTable (switch a es) = AllByRecursion (λ (e : Entry Ptr). Narrow e.key) es
 NarrowTable (on_demand a) = Unit {0}
 NarrowTable (dead a os) = Unit {0}
 
 abbrev pub NarrowLine : Line → Type 0
-NarrowLine l = All NarrowTable l.tables
+NarrowLine l = AllByRecursion NarrowTable l.tables
 
-narrow-swap : (a : ℕ) (u : Table) (ts : List Table) → NarrowTable u → All NarrowTable ts → All NarrowTable (swap a u ts)
+narrow-swap : (a : ℕ) (u : Table) (ts : List Table) → NarrowTable u → AllByRecursion NarrowTable ts → AllByRecursion NarrowTable (swap a u ts)
 narrow-swap a u [] f g = tt
 narrow-swap a u (t ∷ ts) f g = go (eqb (arg_of t) a) (narrow-swap a u ts f g.1)
   where
-    go : (x : Bool) → All NarrowTable (swap a u ts) → All NarrowTable (cond x (u ∷ ts) (t ∷ swap a u ts))
+    go : (x : Bool) → AllByRecursion NarrowTable (swap a u ts) → AllByRecursion NarrowTable (cond x (u ∷ ts) (t ∷ swap a u ts))
     go true r = (f, g.1)
     go false r = (g.0, r)
 
 module _ (P : Program) where
-  narrow-later : (n a : ℕ) (os : List ℕ) → All NarrowTable (later_tables P n a os)
+  narrow-later : (n a : ℕ) (os : List ℕ) → AllByRecursion NarrowTable (later_tables P n a os)
   narrow-later zero a os = tt
   narrow-later (suc n) a os = go (later-view P a os) (narrow-later n (suc a) os)
     where
-      go : {x : Option Table} → Later P a x → All NarrowTable (later_tables P n (suc a) os) → All NarrowTable (cons_opt x (later_tables P n (suc a) os))
+      go : {x : Option Table} → Later P a x → AllByRecursion NarrowTable (later_tables P n (suc a) os)
+          → AllByRecursion NarrowTable (cons_opt x (later_tables P n (suc a) os))
       go later-none r = r
       go later-demand r = (tt, r)
       go later-dead r = (tt, r)
 
-  narrow-lines : (a : ℕ) (cs : List Choice) (ks : List Key) → All NarrowLine (lines_for P a cs ks)
+  narrow-lines : (a : ℕ) (cs : List Choice) (ks : List Key) → AllByRecursion NarrowLine (lines_for P a cs ks)
   narrow-lines a cs [] = tt
   narrow-lines a cs (k ∷ ks) = go (lone P (offs (bucket_of P a cs k))) (narrow-lines a cs ks)
     where
-      go : (x : Option ℕ) → All NarrowLine (lines_for P a cs ks) → All NarrowLine (cons_line x (new_line P a (bucket_of P a cs k)) (lines_for P a cs ks))
+      go : (x : Option ℕ) → AllByRecursion NarrowLine (lines_for P a cs ks)
+          → AllByRecursion NarrowLine (cons_line x (new_line P a (bucket_of P a cs k)) (lines_for P a cs ks))
       go none r = (narrow-later (P.arity - a) (suc a) (offs (bucket_of P a cs k)), r)
       go (some o) r = r
 
-  narrow-added : (a : ℕ) (cs : List Choice) (os : List ℕ) → All NarrowLine (added P a cs os)
+  narrow-added : (a : ℕ) (cs : List Choice) (os : List ℕ) → AllByRecursion NarrowLine (added P a cs os)
   narrow-added a cs [] =
       all_append NarrowLine (lines_for P a cs (lists P a (offs cs))) (lines_for P a cs (structures P a (offs cs)) ++ lines_for P a cs (literals P a (offs cs)))
       (narrow-lines a cs (lists P a (offs cs)))
@@ -148,22 +151,23 @@ module _ (P : Program) where
       (narrow-lines a cs (structures P a (offs cs))) (narrow-lines a cs (literals P a (offs cs))))
   narrow-added a cs (o ∷ os) = tt
 
-  narrow-entries : (a : ℕ) (cs : List Choice) (d : ℕ) (ks : List Key) → All Narrow ks → All (λ (e : Entry Ptr). Narrow e.key) (entries_for P a cs d ks)
+  narrow-entries : (a : ℕ) (cs : List Choice) (d : ℕ) (ks : List Key) → AllByRecursion Narrow ks
+      → AllByRecursion (λ (e : Entry Ptr). Narrow e.key) (entries_for P a cs d ks)
   narrow-entries a cs d [] f = tt
   narrow-entries a cs d (k ∷ ks) f = (f.0, narrow-entries a cs (after (lone P (offs (bucket_of P a cs k))) d) ks f.1)
 
   module _ (narrow : (o a : ℕ) → Narrow (P.key_of o a)) where
-    narrow-keys : (a : ℕ) (os : List ℕ) → All Narrow (keys_at P a os)
+    narrow-keys : (a : ℕ) (os : List ℕ) → AllByRecursion Narrow (keys_at P a os)
     narrow-keys a os = all-distinct Narrow same (map (λ o. P.key_of o a) os) (each os)
       where
-        each : (os : List ℕ) → All Narrow (map (λ o. P.key_of o a) os)
+        each : (os : List ℕ) → AllByRecursion Narrow (map (λ o. P.key_of o a) os)
         each [] = tt
         each (o ∷ os) = (narrow o a, each os)
 
-    narrow-lists : (a : ℕ) (os : List ℕ) → All Narrow (lists P a os)
+    narrow-lists : (a : ℕ) (os : List ℕ) → AllByRecursion Narrow (lists P a os)
     narrow-lists a os = go P.dynamic
       where
-        go : (b : Bool) → All Narrow (cond b (ListKey ∷ []) (keep (λ k. eqb 2 (group_of k)) (keys_at P a os)))
+        go : (b : Bool) → AllByRecursion Narrow (cond b (ListKey ∷ []) (filter (λ k. eqb 2 (group_of k)) (keys_at P a os)))
         go true = ((omega arith, omega arith), tt)
         go false = all_keep Narrow (λ k. eqb 2 (group_of k)) (keys_at P a os) (narrow-keys a os)
 
@@ -173,28 +177,28 @@ module _ (P : Program) where
         let b : ℕ = s + length (lines_for P a cs (structures P a (offs cs))) in
         let ls : List (Entry Ptr) = entries_for P a cs (1 + g) (lists P a (offs cs)) in
         let ss : List (Entry Ptr) = entries_for P a cs s (structures P a (offs cs)) in
-        let ks : All Narrow (keys_at P a (offs cs)) = narrow-keys a (offs cs) in
+        let ks : AllByRecursion Narrow (keys_at P a (offs cs)) = narrow-keys a (offs cs) in
         all_append (λ (e : Entry Ptr). Narrow e.key) (entries_for P a cs b (literals P a (offs cs))) (ls ++ ss)
         (narrow-entries a cs b (literals P a (offs cs)) (all_keep Narrow (λ k. eqb 1 (group_of k)) (keys_at P a (offs cs)) ks))
         (all_append (λ (e : Entry Ptr). Narrow e.key) ls ss (narrow-entries a cs (1 + g) (lists P a (offs cs)) (narrow-lists a (offs cs)))
         (narrow-entries a cs s (structures P a (offs cs)) (all_keep Narrow (λ k. eqb 3 (group_of k)) (keys_at P a (offs cs)) ks)))
     narrow-expanded a cs g (o ∷ os) = tt
 
-    pub narrow-expand : (idx : Index) (l a : ℕ) → l < length idx → All NarrowLine idx → All NarrowLine (expand P idx l a)
+    pub narrow-expand : (idx : Index) (l a : ℕ) → l < length idx → AllByRecursion NarrowLine idx → AllByRecursion NarrowLine (expand P idx l a)
     narrow-expand idx l a h f =
         let cs : List Choice = (line_at idx l).choices in
         rw (expand-is P idx l a) (all_append NarrowLine (set idx l (grown P idx l a)) (added P a cs (opens P idx l a))
         (all_set NarrowLine idx l (grown P idx l a) f
         (narrow-swap a (outcome P idx l a) (line_at idx l).tables (narrow-expanded a cs (length idx - l - 1) (opens P idx l a))
-        (all_in NarrowLine idx l no_line f h)))
+        (All-from_recursion NarrowLine idx f l no_line h)))
         (narrow-added a cs (opens P idx l a)))
 
-    pub narrow-built : (c : ℕ) (os : List ℕ) → open_at P c os ≡ [] → All NarrowLine (build P c os)
+    pub narrow-built : (c : ℕ) (os : List ℕ) → open_at P c os ≡ [] → AllByRecursion NarrowLine (build P c os)
     unfolding seed
     narrow-built c os keyed =
         rw (built-is-expanded P c os keyed) (narrow-expand (seed P c os) 0 c (omega arith) ((tt, narrow-later (P.arity - c) (suc c) os), tt))
 
-    pub narrow-grown : (cap : ℕ) {idx idx' : Index} → Grown P cap idx idx' → All NarrowLine idx → All NarrowLine idx'
+    pub narrow-grown : (cap : ℕ) {idx idx' : Index} → Grown P cap idx idx' → AllByRecursion NarrowLine idx → AllByRecursion NarrowLine idx'
     narrow-grown cap grown-same f = f
     narrow-grown cap (grown-more {idx = idx} l a c h d k g) f = narrow-grown cap g (narrow-expand idx l a h f)
 
@@ -204,7 +208,7 @@ fit_parts : (a b : List Rec) → AllFit (a ++ b) → AllFit a × AllFit b
 fit_parts [] b f = ((λ i. fit_none), f)
 fit_parts (r ∷ a) b f = let x = fit_parts a b (λ i. f (suc i)) in (fit-cons r a (f 0) x.0, x.1)
 
-entries-narrow : (es : List (Entry Ptr)) → AllFit (map entry_rec es) → All (λ (e : Entry Ptr). Narrow e.key) es
+entries-narrow : (es : List (Entry Ptr)) → AllFit (map entry_rec es) → AllByRecursion (λ (e : Entry Ptr). Narrow e.key) es
 entries-narrow [] f = tt
 entries-narrow (e ∷ es) f = (((f 0).half, (f 0).long), entries-narrow es (λ i. f (suc i)))
 
@@ -213,11 +217,11 @@ table-narrow (switch a es) f = entries-narrow es (λ i. f (suc i))
 table-narrow (on_demand a) f = tt
 table-narrow (dead a os) f = tt
 
-tables-narrow : (ts : List Table) → AllFit (tables_recs ts) → All NarrowTable ts
+tables-narrow : (ts : List Table) → AllFit (tables_recs ts) → AllByRecursion NarrowTable ts
 tables-narrow [] f = tt
 tables-narrow (t ∷ ts) f = let x = fit_parts (table_recs t) (tables_recs ts) f in (table-narrow t x.0, tables-narrow ts x.1)
 
-pub index-narrow : (m n : ℕ) (idx : Index) → AllFit (records m n idx) → All NarrowLine idx
+pub index-narrow : (m n : ℕ) (idx : Index) → AllFit (records m n idx) → AllByRecursion NarrowLine idx
 index-narrow m n [] f = tt
 index-narrow m n (l ∷ ls) f =
     let x = fit_parts (tables_recs l.tables) (map choice_rec l.choices ++ records m (suc n) ls) (λ i. f (suc i)) in
@@ -226,14 +230,14 @@ index-narrow m n (l ∷ ls) f =
 -- ---- a sound index with such keys fits its records
 
 sort-small : (k : Key) → key_ok k ≡ true → sort_of k < 256
-sort-small None e = bool-absurd e refl
-sort-small (Literal s b) e = let x = and-true (leb 1 s) (leb s 3) e in omega (arith, le_of s 3 x.1)
+sort-small None e = absurd (false≢true e)
+sort-small (Literal s b) e = let x = and_parts (leb 1 s) (leb s 3) e in omega (arith, leb-true s 3 x.1)
 sort-small (Structure n f) e = omega arith
 sort-small ListKey e = omega arith
 
 tag_small : (d : Bool) (c : Choice) → tag_ok d c ≡ true → c.tag < 256
-tag_small true c e = let x = and-true (leb 6 c.tag) (leb c.tag 7) e in omega (arith, le_of c.tag 7 x.1)
-tag_small false c e = let x = and-true (leb 1 c.tag) (leb c.tag 5) e in omega (arith, le_of c.tag 5 x.1)
+tag_small true c e = let x = and_parts (leb 6 c.tag) (leb c.tag 7) e in omega (arith, leb-true c.tag 7 x.1)
+tag_small false c e = let x = and_parts (leb 1 c.tag) (leb c.tag 5) e in omega (arith, leb-true c.tag 5 x.1)
 
 mode_small : (d : Bool) → mode_of d < 256
 mode_small true = omega arith
@@ -243,44 +247,45 @@ module _ (known : ℕ → Bool) (small : (o : ℕ) → known o ≡ true → o < 
   fit-deads : (n : ℕ) (os : List ℕ) → rising_ok known n os ≡ true → AllFit (map dead_rec os)
   fit-deads n [] e = λ i. fit_none
   fit-deads n (o ∷ os) e =
-      let x = and-true (leb n o) (known o && rising_ok known (suc o) os) e in
-      let y = and-true (known o) (rising_ok known (suc o) os) x.1 in
+      let x = and_parts (leb n o) (known o && rising_ok known (suc o) os) e in
+      let y = and_parts (known o) (rising_ok known (suc o) os) x.1 in
       fit-cons (dead_rec o) (map dead_rec os)
       (record { kind = omega arith; sub = omega arith; half = omega arith; word = omega (arith, small o y.0); long = omega arith })
       (fit-deads (suc o) os y.1)
 
-  fit-choices : (d : Bool) (n : ℕ) (cs : List Choice) → rising_ok known n (offs cs) ≡ true → every (tag_ok d) cs ≡ true → AllFit (map choice_rec cs)
+  fit-choices : (d : Bool) (n : ℕ) (cs : List Choice) → rising_ok known n (offs cs) ≡ true → list_all (tag_ok d) cs ≡ true → AllFit (map choice_rec cs)
   fit-choices d n [] e f = λ i. fit_none
   fit-choices d n (c ∷ cs) e f =
-      let x = and-true (leb n c.offset) (known c.offset && rising_ok known (suc c.offset) (offs cs)) e in
-      let y = and-true (known c.offset) (rising_ok known (suc c.offset) (offs cs)) x.1 in
-      let t = and-true (tag_ok d c) (every (tag_ok d) cs) f in
+      let x = and_parts (leb n c.offset) (known c.offset && rising_ok known (suc c.offset) (offs cs)) e in
+      let y = and_parts (known c.offset) (rising_ok known (suc c.offset) (offs cs)) x.1 in
+      let t = and_parts (tag_ok d c) (list_all (tag_ok d) cs) f in
       fit-cons (choice_rec c) (map choice_rec cs)
       (record { kind = omega arith; sub = tag_small d c t.0; half = omega arith; word = omega (arith, small c.offset y.0); long = omega arith })
       (fit-choices d (suc c.offset) cs y.1 t.1)
 
   module _ (arity : ℕ) (dynamic : Bool) (idx : Index) (few : arity ≤ 32) (short : length idx ≤ 65535) where
     word_small : (l a : ℕ) (p : Ptr) → pointer_ok arity dynamic known idx l a p ≡ true → word p < 4294967296
-    word_small l a (ext o) e = omega (arith, small o (and-true (not dynamic) (known o) e).1)
+    word_small l a (ext o) e = omega (arith, small o (and_parts (not dynamic) (known o) e).1)
     word_small l a (int d) e =
-        let x = and-true (leb 1 d) (ltb (l + d) (length idx) && args_ok arity (suc a) (line_at idx (l + d)).tables) e in
-        let y = and-true (ltb (l + d) (length idx)) (args_ok arity (suc a) (line_at idx (l + d)).tables) x.1 in
-        omega (arith, ltb→lt (l + d) (length idx) (true-T y.0))
+        let x = and_parts (leb 1 d) (ltb (l + d) (length idx) && args_ok arity (suc a) (line_at idx (l + d)).tables) e in
+        let y = and_parts (ltb (l + d) (length idx)) (args_ok arity (suc a) (line_at idx (l + d)).tables) x.1 in
+        omega (arith, ltb-true (l + d) (length idx) y.0)
 
     fit-entries : (l a g : ℕ) (es : List (Entry Ptr)) → keys_ok g (entry_keys es) ≡ true
-        → every (λ e. pointer_ok arity dynamic known idx l a e.to) es ≡ true → All (λ (e : Entry Ptr). Narrow e.key) es → AllFit (map entry_rec es)
+        → list_all (λ e. pointer_ok arity dynamic known idx l a e.to) es ≡ true → AllByRecursion (λ (e : Entry Ptr). Narrow e.key) es
+        → AllFit (map entry_rec es)
     fit-entries l a g [] k p f = λ i. fit_none
     fit-entries l a g (e ∷ es) k p f =
         let x = keys-parts g e.key (entry_keys es) k in
-        let s = (and-true (key_ok e.key) (not (any_of (same e.key) (entry_keys es)) && keys_ok (group_of e.key) (entry_keys es)) x.1).0 in
-        let y = and-true (pointer_ok arity dynamic known idx l a e.to) (every (λ e. pointer_ok arity dynamic known idx l a e.to) es) p in
+        let s = (and_parts (key_ok e.key) (not (list_any (same e.key) (entry_keys es)) && keys_ok (group_of e.key) (entry_keys es)) x.1).0 in
+        let y = and_parts (pointer_ok arity dynamic known idx l a e.to) (list_all (λ e. pointer_ok arity dynamic known idx l a e.to) es) p in
         fit-cons (entry_rec e) (map entry_rec es)
         (record { kind = omega arith; sub = sort-small e.key s; half = f.0.0; word = word_small l a e.to y.0; long = f.0.1 })
         (fit-entries l a (group_of e.key) es x.2 y.1 f.1)
 
     fit-table : (l : ℕ) (t : Table) → arg_of t ≤ 32 → table_ok arity dynamic known idx l t ≡ true → NarrowTable t → AllFit (table_recs t)
     fit-table l (switch a es) h e f =
-        let x = and-true (keys_ok 1 (entry_keys es)) (every (λ e. pointer_ok arity dynamic known idx l a e.to) es) e in
+        let x = and_parts (keys_ok 1 (entry_keys es)) (list_all (λ e. pointer_ok arity dynamic known idx l a e.to) es) e in
         fit-cons _ (map entry_rec es) (record { kind = omega arith; sub = omega arith; half = omega arith; word = omega arith; long = omega arith })
         (fit-entries l a 1 es x.0 x.1 f)
     fit-table l (on_demand a) h e f =
@@ -289,25 +294,26 @@ module _ (known : ℕ → Bool) (small : (o : ℕ) → known o ≡ true → o < 
         fit-cons _ (map dead_rec os) (record { kind = omega arith; sub = omega arith; half = omega arith; word = omega arith; long = omega arith })
         (fit-deads 1 os e)
 
-    fit-tables : (l n : ℕ) (ts : List Table) → args_ok arity n ts ≡ true → every (table_ok arity dynamic known idx l) ts ≡ true → All NarrowTable ts
+    fit-tables : (l n : ℕ) (ts : List Table) → args_ok arity n ts ≡ true → list_all (table_ok arity dynamic known idx l) ts ≡ true
+        → AllByRecursion NarrowTable ts
         → AllFit (tables_recs ts)
     fit-tables l n [] r e f = λ i. fit_none
     fit-tables l n (t ∷ ts) r e f =
-        let x = and-true (leb n (arg_of t)) (leb (arg_of t) arity && args_ok arity (suc (arg_of t)) ts) r in
-        let y = and-true (leb (arg_of t) arity) (args_ok arity (suc (arg_of t)) ts) x.1 in
-        let z = and-true (table_ok arity dynamic known idx l t) (every (table_ok arity dynamic known idx l) ts) e in
-        fit_append (table_recs t) (tables_recs ts) (fit-table l t (omega (arith, le_of (arg_of t) arity y.0)) z.0 f.0)
+        let x = and_parts (leb n (arg_of t)) (leb (arg_of t) arity && args_ok arity (suc (arg_of t)) ts) r in
+        let y = and_parts (leb (arg_of t) arity) (args_ok arity (suc (arg_of t)) ts) x.1 in
+        let z = and_parts (table_ok arity dynamic known idx l t) (list_all (table_ok arity dynamic known idx l) ts) e in
+        fit_append (table_recs t) (tables_recs ts) (fit-table l t (omega (arith, leb-true (arg_of t) arity y.0)) z.0 f.0)
         (fit-tables l (suc (arg_of t)) ts y.1 z.1 f.1)
 
-    fit-lines : (n : ℕ) (xs : List Line) → lines_ok arity dynamic known idx n xs ≡ true → All NarrowLine xs → n + length xs ≤ 65535
+    fit-lines : (n : ℕ) (xs : List Line) → lines_ok arity dynamic known idx n xs ≡ true → AllByRecursion NarrowLine xs → n + length xs ≤ 65535
         → AllFit (records (mode_of dynamic) n xs)
     fit-lines n [] e f h = λ i. fit_none
     fit-lines n (x ∷ xs) e f h =
-        let y = and-true (line_ok arity dynamic known idx n x) (lines_ok arity dynamic known idx (suc n) xs) e in
-        let a = and-true (args_ok arity 1 x.tables) (every (table_ok arity dynamic known idx n) x.tables && choices_ok dynamic known x.choices) y.0 in
-        let b = and-true (every (table_ok arity dynamic known idx n) x.tables) (choices_ok dynamic known x.choices) a.1 in
-        let c = and-true (rising_ok known 1 (offs x.choices)) (every (tag_ok dynamic) x.choices && some_ok dynamic x.choices) b.1 in
-        let d = and-true (every (tag_ok dynamic) x.choices) (some_ok dynamic x.choices) c.1 in
+        let y = and_parts (line_ok arity dynamic known idx n x) (lines_ok arity dynamic known idx (suc n) xs) e in
+        let a = and_parts (args_ok arity 1 x.tables) (list_all (table_ok arity dynamic known idx n) x.tables && choices_ok dynamic known x.choices) y.0 in
+        let b = and_parts (list_all (table_ok arity dynamic known idx n) x.tables) (choices_ok dynamic known x.choices) a.1 in
+        let c = and_parts (rising_ok known 1 (offs x.choices)) (list_all (tag_ok dynamic) x.choices && some_ok dynamic x.choices) b.1 in
+        let d = and_parts (list_all (tag_ok dynamic) x.choices) (some_ok dynamic x.choices) c.1 in
         let rest = records (mode_of dynamic) (suc n) xs in
         fit-cons (line_rec (mode_of dynamic) n) (tables_recs x.tables ++ (map choice_rec x.choices ++ rest))
         (record { kind = omega arith; sub = mode_small dynamic; half = omega arith; word = omega arith; long = omega arith })
@@ -315,5 +321,5 @@ module _ (known : ℕ → Bool) (small : (o : ℕ) → known o ≡ true → o < 
         (fit_append (map choice_rec x.choices) rest (fit-choices dynamic 1 x.choices c.0 d.0)
         (fit-lines (suc n) xs y.1 f.1 (omega arith))))
 
-    pub fit-index : index_ok arity dynamic known idx ≡ true → All NarrowLine idx → AllFit (records (mode_of dynamic) 0 idx)
-    fit-index e f = fit-lines 0 idx (and-true (ltb 0 (length idx)) (lines_ok arity dynamic known idx 0 idx) e).1 f (omega arith)
+    pub fit-index : index_ok arity dynamic known idx ≡ true → AllByRecursion NarrowLine idx → AllFit (records (mode_of dynamic) 0 idx)
+    fit-index e f = fit-lines 0 idx (and_parts (ltb 0 (length idx)) (lines_ok arity dynamic known idx 0 idx) e).1 f (omega arith)

@@ -5,6 +5,7 @@ use mathlib.Core.Bool.{Bool, true, false, not, ◌&&◌, ◌||◌}
 use mathlib.Core.List.{List, [], ◌∷◌, map}
 use Prim.Native.Nat.{ℕ, ◌+◌, ◌≤◌, ◌<◌}
 use borrow.Author.Tests.{eq-eqb, eqb-true}
+use Rattle.std.specs.List.{list_any}
 use lib.Dec.{eqb}
 use native.Mathlib.Numerals.{add-one}
 use native.Mathlib.Omega.{arith}
@@ -14,7 +15,6 @@ use Rattle.records.specs.declared.Rec.{Rec}
 use Rattle.records.specs.Records.{zero_rec}
 use Rattle.indexing_iter.specs.Keys.{same}
 use Rattle.indexing.specs.Lines.{Ptr, Entry}
-use Rattle.indexing.specs.Lists.{any_of}
 use Rattle.indexing.specs.Reading.{entry_from}
 use Rattle.well_formed.specs.WellFormed.{entry_keys}
 use Rattle.well_formed.specs.Pass.{group_by_sort, form_ok, same_fields, among, distinct_keys, once}
@@ -62,7 +62,7 @@ fields-same r q e f =
     (λ z. eq-eqb (group_by_sort r.sub) (group_by_sort q.sub) (ap group_by_sort (eqb-true r.sub q.sub z))))
 
 any-among : (r : Rec) (qs : List Rec) → form_ok r.sub r.half r.long ≡ true → Forms qs
-    → any_of (same (entry_from r).key) (entry_keys (map entry_from qs)) ≡ among r qs
+    → list_any (same (entry_from r).key) (entry_keys (map entry_from qs)) ≡ among r qs
 unfolding among
 any-among r [] e f = refl
 any-among r (q ∷ qs) e f = ap₂ (λ (x y : Bool). x || y) (fields-same r q e f.0) (any-among r qs e f.1)

@@ -7,7 +7,8 @@ use Prim.Native.Nat.{ℕ, zero, suc, ◌+◌, ◌≤◌, ◌<◌}
 use native.Mathlib.Numerals.{add-one}
 use native.Mathlib.Nat.{add-zero}
 use native.Mathlib.Omega.{arith}
-use borrow.Author.Tests.{eqb-true, eqb-false, ltb-true, lt-ltb}
+use Rattle.std.proofs.lemmas.Bool.{and_parts, eqb-false, eqb-true, lt-ltb, ltb-true}
+use Rattle.std.specs.Cmp.Derive.{both_true}
 use lib.Dec.{eqb, ltb}
 use lib.ListN.{length, get_or, take, drop, set, replicate}
 use Rattle.std.proofs.lemmas.List.{take_more}
@@ -17,7 +18,6 @@ use Rattle.records.specs.Records.{zero_rec}
 use Rattle.indexing_iter.specs.Checks.{rising_below}
 use Rattle.indexing_iter.specs.Clauses.{known}
 use Rattle.indexing_iter.proofs.CheckLaws.{start-known, known-range}
-use Rattle.indexing.proofs.Tests.{and-true, both}
 use Rattle.indexing.specs.Lines.{Line, Index}
 use Rattle.indexing.specs.Reading.{Waiting, read_all, parse}
 use Rattle.well_formed.specs.WellFormed.{well_formed}
@@ -94,7 +94,7 @@ unfolding rising_below
 rising-higher m n [] h e = refl
 rising-higher m n (s ∷ []) h e = lt-ltb s m (omega (arith, ltb-true s n e))
 rising-higher m n (s ∷ (t ∷ ts)) h e =
-    let x = and-true (ltb s t) (rising_below n (t ∷ ts)) e in both x.0 (rising-higher m n (t ∷ ts) h x.1)
+    let x = and_parts (ltb s t) (rising_below n (t ∷ ts)) e in both_true x.0 (rising-higher m n (t ∷ ts) h x.1)
 
 -- the check over marks and counted lines answers as number 12's definition over the starts
 pub answer : (arity : ℕ) (dynamic : Bool) (marks starts : List ℕ) (n total : ℕ) (rs : List Rec) → Marks marks starts → rising_below n starts ≡ true → n ≤ 32768

@@ -5,14 +5,14 @@ use mathlib.Core.Bool.{Bool, true, false, cond, ◌&&◌}
 use mathlib.Core.List.{List, [], ◌∷◌, ◌++◌}
 use Prim.Native.Nat.{ℕ, zero, suc, ◌+◌, ◌-◌, ◌≤◌, ◌<◌}
 use native.Mathlib.Omega.{arith}
-use borrow.Author.Tests.{ltb-true, ltb-false, lt-ltb, le-ltb}
+use Rattle.std.proofs.lemmas.Bool.{and_parts, both_ways, false_from_ne_true, le-ltb, lt-ltb, ltb-false, ltb-true}
+use Rattle.std.specs.Cmp.Derive.{both_true}
 use lib.Dec.{eqb, ltb}
 use lib.ListN.{length, get_or, take, drop, set, take-append-drop}
 use Rattle.std.proofs.lemmas.List.{length-drop}
 use lib.Seq.{get_or-set_same, get_or-set_other}
 use Rattle.records.specs.declared.Rec.{Rec}
 use Rattle.records.specs.Records.{zero_rec}
-use Rattle.indexing.proofs.Tests.{bool-absurd, and-true, both, not-true}
 use Rattle.indexing.specs.Lines.{Ptr, ext, int, Line, Index, line_at}
 use Rattle.indexing.specs.Reading.{pointer_from, Waiting, read, read_all}
 use Rattle.well_formed.specs.declared.Waits.{Waits}
@@ -106,7 +106,7 @@ module _ (arity : ℕ) (dynamic : Bool) (known : ℕ → Bool) (total : ℕ) whe
         ap (λ (i : ℕ). reach_in dynamic known firsts i p) l ∙ reach-noted dynamic known firsts w.lines p m.first in
         let q : Met (r ∷ rs) s' firsts' =
         record {
-          passed = met-pass ∙ both t k;
+          passed = met-pass ∙ both_true t k;
           state = f ∙ rw (n, m.state) (turn-after dynamic known (turn-of r.kind r w));
           first = rw (g, turn_lines (turn-of r.kind r w), l, a)
               (noted-turn (eqb r.kind 1) firsts (record { tables = w.tables; choices = w.choices }) w.lines (omega arith) m.first);
@@ -120,13 +120,13 @@ module _ (arity : ℕ) (dynamic : Bool) (known : ℕ → Bool) (total : ℕ) whe
   behind-passes w [] ys e = e
   behind-passes w (x ∷ xs) ys e =
       let v = read_all (xs ++ ys) w in
-      behind-passes w xs ys (and-true (step_ok arity dynamic known total x.kind x (waits dynamic known v) && keys_once x.kind v.entries)
+      behind-passes w xs ys (and_parts (step_ok arity dynamic known total x.kind x (waits dynamic known v) && keys_once x.kind v.entries)
       (pass arity dynamic known total w (xs ++ ys)) e).1
 
   all-fail : (rs : List Rec) (i : ℕ) → pass arity dynamic known total nothing (drop i rs) ≡ false → pass arity dynamic known total nothing rs ≡ false
   all-fail rs i e =
-      not-true (λ f. bool-absurd (behind-passes nothing (take i rs) (drop i rs)
-      (ap (pass arity dynamic known total nothing) (take-append-drop i rs) ∙ f)) e)
+      false_from_ne_true _ (λ f. both_ways _ e (behind-passes nothing (take i rs) (drop i rs)
+      (ap (pass arity dynamic known total nothing) (take-append-drop i rs) ∙ f)))
 
   -- ---- a turn of the loop
 
@@ -159,7 +159,7 @@ module _ (arity : ℕ) (dynamic : Bool) (known : ℕ → Bool) (total : ℕ) whe
         → s' ≡ after k r s (reach_in dynamic known firsts s.lines (pointer_from r.word))
         → firsts' ≡ noted k s.lines s.first firsts → Met (drop (i - 1) R) s' firsts'
     met-turn k e s' firsts' l t f g =
-        let x = and-true (step_ok arity dynamic known total r.kind r s) (cond (eqb r.kind 2) (distinct_keys (take s.entries (drop i R))) true)
+        let x = and_parts (step_ok arity dynamic known total r.kind r s) (cond (eqb r.kind 2) (distinct_keys (take s.entries (drop i R))) true)
         (ap Tests e ∙ t) in
         met-more h.met r (drop (i - 1) R) s' firsts' front l x.0 x.1
         (f ∙ ap (λ (n : ℕ). after n r s (reach_in dynamic known firsts s.lines (pointer_from r.word))) (sym e))

@@ -5,17 +5,16 @@ use mathlib.Core.Bool.{Bool, true, false, cond, not, ◌&&◌, ◌||◌}
 use mathlib.Core.List.{List, [], ◌∷◌, ◌++◌, map, append_assoc}
 use Prim.Native.Nat.{ℕ, suc, ◌+◌, ◌≤◌}
 use native.Mathlib.Omega.{arith}
-use borrow.Author.Tests.{ltb-true}
+use Rattle.std.specs.List.{list_all, AllByRecursion}
+use Rattle.std.proofs.lemmas.Bool.{and_parts, eqb-true, false≢true, le-leb, leb-true, ltb-true}
+use Rattle.std.specs.Cmp.Derive.{both_true}
 use lib.Dec.{eqb, leb, ltb}
 use lib.ListN.{length}
 use Rattle.records.specs.declared.Rec.{Rec}
 use Rattle.records.specs.Records.{rec_of}
 use Rattle.indexing_iter.specs.Keys.{group_of}
-use Rattle.indexing.proofs.Lists.{All}
-use Rattle.indexing.proofs.Tests.{bool-absurd, eqb-true, and-true, both, le-true, le_of}
 use Rattle.indexing.specs.Lines.{switch, on_demand, dead, Choice, offs, entry_rec, dead_rec, tables_recs, choice_rec}
 use Rattle.indexing.specs.Lines.{mode_of, records}
-use Rattle.indexing.specs.Lists.{every}
 use Rattle.indexing.specs.Reading.{key_from, entry_from, Waiting, waiting, read, read_all}
 use Rattle.well_formed.specs.WellFormed.{rising_ok, args_ok, entry_keys, tag_ok, some_ok}
 use Rattle.well_formed.specs.Pass.{first_arg, first_of, first_group, group_bound, least, waits, group_by_sort, form_ok, rises, tag_in, idle, bare, line_step, table_step, switch_step}
@@ -36,9 +35,9 @@ module _ (arity : ℕ) (dynamic : Bool) (known : ℕ → Bool) (total : ℕ) whe
     pub keys : groups_ok 1 (entry_keys w.entries) ≡ true
     pub deads : rising_ok known 1 w.deads ≡ true
     pub args : args_ok arity 1 w.tables ≡ true
-    pub tables : All (FineTable arity dynamic known w.lines) w.tables
+    pub tables : AllByRecursion (FineTable arity dynamic known w.lines) w.tables
     pub rising : rising_ok known 1 (offs w.choices) ≡ true
-    pub tags : every (tag_ok dynamic) w.choices ≡ true
+    pub tags : list_all (tag_ok dynamic) w.choices ≡ true
     pub lines : Fine arity dynamic known w.lines
 
   module _ (small : arity ≤ 32) (good : (o : ℕ) → known o ≡ true → 1 ≤ o) (r : Rec) (rs : List Rec) (w : Waiting) (S : Sound rs w) where
@@ -55,13 +54,13 @@ module _ (arity : ℕ) (dynamic : Bool) (known : ℕ → Bool) (total : ℕ) whe
         let x = and5 (eqb r.sub (mode_of dynamic)) (bare r) (eqb (r.word + length w.lines + 1) total) (idle (waits dynamic known w))
         (dynamic || not (eqb (first_of (offs w.choices)) 0)) e in
         let b = bare-told r x.1 in
-        let n : r.word + length w.lines + 1 ≡ total = eqb-true x.2 in
+        let n : r.word + length w.lines + 1 ≡ total = eqb-true _ _ x.2 in
         let i = nothing-waits x.3 in
         record {
           same = λ m h.
               let c : suc m + length w.lines ≡ total = omega arith in
               let o : r.word ≡ m = omega arith in
-              ap₂ (λ (q : Rec) (qs : List Rec). q ∷ qs) (rec-is r 1 (mode_of dynamic) 0 m 0 k (eqb-true x.0) b.0 o b.1)
+              ap₂ (λ (q : Rec) (qs : List Rec). q ∷ qs) (rec-is r 1 (mode_of dynamic) 0 m 0 k (eqb-true _ _ x.0) b.0 o b.1)
               (rw (i.0, i.1) at (S.same (suc m) c));
           keys = refl;
           deads = refl;
@@ -69,7 +68,7 @@ module _ (arity : ℕ) (dynamic : Bool) (known : ℕ → Bool) (total : ℕ) whe
           tables = tt;
           rising = refl;
           tags = refl;
-          lines = ((S.args, S.tables, both S.rising (both S.tags (some_one dynamic w.choices x.4))), S.lines);
+          lines = ((S.args, S.tables, both_true S.rising (both_true S.tags (some_one dynamic w.choices x.4))), S.lines);
         }
       where
         some_one : (d : Bool) (cs : List Choice) → d || not (eqb (first_of (offs cs)) 0) ≡ true → some_ok d cs ≡ true
@@ -83,8 +82,8 @@ module _ (arity : ℕ) (dynamic : Bool) (known : ℕ → Bool) (total : ℕ) whe
     unfolding table_step
     table-told k f e =
         let x = and6 (eqb r.sub 0) (eqb r.word 0) (eqb r.long 0) (leb 1 r.half) (leb r.half arity) (ltb r.half (first_arg w.tables)) e in (
-          rec-is r k 0 r.half 0 0 f (eqb-true x.0) refl (eqb-true x.1) (eqb-true x.2),
-          both x.3 (both x.4 (args-above arity r.half w.tables S.args (ltb-true r.half (first_arg w.tables) x.5))),
+          rec-is r k 0 r.half 0 0 f (eqb-true _ _ x.0) refl (eqb-true _ _ x.1) (eqb-true _ _ x.2),
+          both_true x.3 (both_true x.4 (args-above arity r.half w.tables S.args (ltb-true r.half (first_arg w.tables) x.5))),
         )
 
     switch-sound : r.kind ≡ 2 → switch_step arity r (waits dynamic known w) ≡ true → once (entry_keys w.entries) ≡ true
@@ -114,7 +113,7 @@ module _ (arity : ℕ) (dynamic : Bool) (known : ℕ → Bool) (total : ℕ) whe
         → Sound (r ∷ rs) (waiting w.entries w.deads (on_demand r.half ∷ w.tables) w.choices w.lines)
     unfolding demand_step
     demand-sound k e =
-        let x = and-true (idle (waits dynamic known w)) (table_step arity r (waits dynamic known w)) e in
+        let x = and_parts (idle (waits dynamic known w)) (table_step arity r (waits dynamic known w)) e in
         let i = nothing-waits x.0 in
         let t = table-told 3 k x.1 in
         record {
@@ -132,7 +131,7 @@ module _ (arity : ℕ) (dynamic : Bool) (known : ℕ → Bool) (total : ℕ) whe
         → Sound (r ∷ rs) (waiting w.entries [] (dead r.half w.deads ∷ w.tables) w.choices w.lines)
     unfolding dead_step
     dead-sound k e =
-        let x = and-true (eqb (length w.entries) 0) (table_step arity r (waits dynamic known w)) e in
+        let x = and_parts (eqb (length w.entries) 0) (table_step arity r (waits dynamic known w)) e in
         let es : w.entries ≡ [] = no_items w.entries x.0 in
         let t = table-told 4 k x.1 in
         record {
@@ -154,16 +153,16 @@ module _ (arity : ℕ) (dynamic : Bool) (known : ℕ → Bool) (total : ℕ) whe
         → Sound (r ∷ rs) (waiting (entry_from r ∷ w.entries) w.deads w.tables w.choices w.lines)
     unfolding entry_step
     entry-sound k e =
-        let x = and-true (form_ok r.sub r.half r.long) (leb (group_by_sort r.sub) (group_bound (first_group w.entries))) e in
+        let x = and_parts (form_ok r.sub r.half r.long) (leb (group_by_sort r.sub) (group_bound (first_group w.entries))) e in
         let f = form-key r.sub r.half r.long x.0 in
         let g : group_of (key_from r.sub r.half r.long) ≡ group_by_sort r.sub = group-sort r.sub r.half r.long in
         let low : 1 ≤ group_of (key_from r.sub r.half r.long) = key-group (key_from r.sub r.half r.long) f.0 in
         let above : group_of (key_from r.sub r.half r.long) ≤ group_bound (first_group w.entries) =
-        omega (arith, le_of (group_by_sort r.sub) (group_bound (first_group w.entries)) x.1) in
+        omega (arith, leb-true (group_by_sort r.sub) (group_bound (first_group w.entries)) x.1) in
         record {
           same = λ m h. ap₂ (λ (q : Rec) (qs : List Rec). q ∷ qs) (entry-back r k x.0) (S.same m h);
-          keys = both (le-true 1 (group_of (key_from r.sub r.half r.long)) low)
-              (both f.0 (groups-front (group_of (key_from r.sub r.half r.long)) w.entries S.keys above));
+          keys = both_true (le-leb 1 (group_of (key_from r.sub r.half r.long)) low)
+              (both_true f.0 (groups-front (group_of (key_from r.sub r.half r.long)) w.entries S.keys above));
           deads = S.deads;
           args = S.args;
           tables = S.tables;
@@ -190,7 +189,7 @@ module _ (arity : ℕ) (dynamic : Bool) (known : ℕ → Bool) (total : ℕ) whe
           args = S.args;
           tables = S.tables;
           rising = rises-front known r.word (offs w.choices) (good r.word) x.4 S.rising;
-          tags = both (tag_in_lem dynamic x.3) S.tags;
+          tags = both_true (tag_in_lem dynamic x.3) S.tags;
           lines = S.lines;
         }
       where
@@ -208,7 +207,7 @@ module _ (arity : ℕ) (dynamic : Bool) (known : ℕ → Bool) (total : ℕ) whe
         record {
           same = λ m h.
               rw es (ap₂ (λ (q : Rec) (qs : List Rec). q ∷ qs)
-              (rec-is r 7 0 0 r.word 0 k (eqb-true x.1) b.0 refl b.1) (rw es at (S.same m h)));
+              (rec-is r 7 0 0 r.word 0 k (eqb-true _ _ x.1) b.0 refl b.1) (rw es at (S.same m h)));
           keys = S.keys;
           deads = rises-front known r.word w.deads (good r.word) x.3 S.deads;
           args = S.args;
@@ -244,14 +243,14 @@ module _ (arity : ℕ) (dynamic : Bool) (known : ℕ → Bool) (total : ℕ) whe
             (cond b₅ (waiting (entry_from r ∷ w.entries) w.deads w.tables w.choices w.lines)
             (cond b₆ (waiting w.entries w.deads w.tables (record { tag = r.sub; offset = r.word } ∷ w.choices) w.lines)
             (waiting w.entries (r.word ∷ w.deads) w.tables w.choices w.lines)))))))
-        go true b₂ b₃ b₄ b₅ b₆ b₇ e₁ e₂ e₃ e₄ e₅ e₆ e₇ e o = line-sound (eqb-true e₁) e
-        go false true b₃ b₄ b₅ b₆ b₇ e₁ e₂ e₃ e₄ e₅ e₆ e₇ e o = switch-sound (eqb-true e₂) e o
-        go false false true b₄ b₅ b₆ b₇ e₁ e₂ e₃ e₄ e₅ e₆ e₇ e o = demand-sound (eqb-true e₃) e
-        go false false false true b₅ b₆ b₇ e₁ e₂ e₃ e₄ e₅ e₆ e₇ e o = dead-sound (eqb-true e₄) e
-        go false false false false true b₆ b₇ e₁ e₂ e₃ e₄ e₅ e₆ e₇ e o = entry-sound (eqb-true e₅) e
-        go false false false false false true b₇ e₁ e₂ e₃ e₄ e₅ e₆ e₇ e o = choice-sound (eqb-true e₆) e
-        go false false false false false false true e₁ e₂ e₃ e₄ e₅ e₆ e₇ e o = clause-sound (eqb-true e₇) e
-        go false false false false false false false e₁ e₂ e₃ e₄ e₅ e₆ e₇ e o = bool-absurd e refl
+        go true b₂ b₃ b₄ b₅ b₆ b₇ e₁ e₂ e₃ e₄ e₅ e₆ e₇ e o = line-sound (eqb-true _ _ e₁) e
+        go false true b₃ b₄ b₅ b₆ b₇ e₁ e₂ e₃ e₄ e₅ e₆ e₇ e o = switch-sound (eqb-true _ _ e₂) e o
+        go false false true b₄ b₅ b₆ b₇ e₁ e₂ e₃ e₄ e₅ e₆ e₇ e o = demand-sound (eqb-true _ _ e₃) e
+        go false false false true b₅ b₆ b₇ e₁ e₂ e₃ e₄ e₅ e₆ e₇ e o = dead-sound (eqb-true _ _ e₄) e
+        go false false false false true b₆ b₇ e₁ e₂ e₃ e₄ e₅ e₆ e₇ e o = entry-sound (eqb-true _ _ e₅) e
+        go false false false false false true b₇ e₁ e₂ e₃ e₄ e₅ e₆ e₇ e o = choice-sound (eqb-true _ _ e₆) e
+        go false false false false false false true e₁ e₂ e₃ e₄ e₅ e₆ e₇ e o = clause-sound (eqb-true _ _ e₇) e
+        go false false false false false false false e₁ e₂ e₃ e₄ e₅ e₆ e₇ e o = absurd (false≢true e)
 
   -- all records that pass
   pub pass-sound : arity ≤ 32 → ((o : ℕ) → known o ≡ true → 1 ≤ o) → (rs : List Rec) → pass arity dynamic known total nothing rs ≡ true
@@ -261,7 +260,7 @@ module _ (arity : ℕ) (dynamic : Bool) (known : ℕ → Bool) (total : ℕ) whe
       record { same = λ m h. refl; keys = refl; deads = refl; args = refl; tables = tt; rising = refl; tags = refl; lines = tt }
   pass-sound small good (r ∷ rs) e =
       let w = read_all rs nothing in
-      let x = and-true (step_ok arity dynamic known total r.kind r (waits dynamic known w) && keys_once r.kind w.entries)
+      let x = and_parts (step_ok arity dynamic known total r.kind r (waits dynamic known w) && keys_once r.kind w.entries)
       (pass arity dynamic known total nothing rs) e in
-      let y = and-true (step_ok arity dynamic known total r.kind r (waits dynamic known w)) (keys_once r.kind w.entries) x.0 in
+      let y = and_parts (step_ok arity dynamic known total r.kind r (waits dynamic known w)) (keys_once r.kind w.entries) x.0 in
       step-sound small good r rs w (pass-sound small good rs x.1) y.0 y.1

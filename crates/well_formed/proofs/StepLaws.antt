@@ -11,7 +11,7 @@ use Rattle.records.specs.Pointer.{is_internal, distance_of}
 use Rattle.std.specs.Prelude.{Result, Ok, Err, Some, None}
 use Rattle.indexing.specs.declared.kinds.Kind.{Kind}
 use Rattle.indexing.specs.declared.kinds.Kind.TheVariants.{Line, Switch, OnDemand, Dead, Entry, Choice, DeadClause}
-use Rattle.indexing.specs.declared.kinds.UnknownKind.{UnknownKind}
+use Rattle.indexing.specs.declared.kinds.UnknownByte.{UnknownByte}
 use Rattle.indexing.specs.Kinds.{kind_number, kind_in}
 use Rattle.indexing.specs.Lines.{ext, int}
 use Rattle.indexing.specs.Reading.{pointer_from}
@@ -20,7 +20,7 @@ use Rattle.well_formed.specs.Pass.{line_step, switch_step, demand_step, dead_ste
 
 -- ---- kinds by their numbers
 
-abbrev number_in : Result Kind UnknownKind → ℕ
+abbrev number_in : Result Kind UnknownByte → ℕ
 number_in (Ok k) = kind_number k
 number_in (Err u) = 0
 
@@ -28,7 +28,7 @@ pub kind-told : (n : ℕ) (k : Kind) → kind_in n ≡ Ok k → n ≡ kind_numbe
 kind-told n k e = go (eqb n 1) (eqb n 2) (eqb n 3) (eqb n 4) (eqb n 5) (eqb n 6) (eqb n 7) refl refl refl refl refl refl refl e
   where
     go : (b₁ b₂ b₃ b₄ b₅ b₆ b₇ : Bool) → eqb n 1 ≡ b₁ → eqb n 2 ≡ b₂ → eqb n 3 ≡ b₃ → eqb n 4 ≡ b₄ → eqb n 5 ≡ b₅ → eqb n 6 ≡ b₆ → eqb n 7 ≡ b₇
-        → ◌≡◌ {A = Result Kind UnknownKind}
+        → ◌≡◌ {A = Result Kind UnknownByte}
         (cond b₁ (Ok Line) (cond b₂ (Ok Switch) (cond b₃ (Ok OnDemand) (cond b₄ (Ok Dead) (cond b₅ (Ok Entry) (cond b₆ (Ok Choice)
         (cond b₇ (Ok DeadClause) (Err (record { 0 = n }))))))))) (Ok k)
         → n ≡ kind_number k
@@ -42,13 +42,13 @@ kind-told n k e = go (eqb n 1) (eqb n 2) (eqb n 3) (eqb n 4) (eqb n 5) (eqb n 6)
     go false false false false false false false e₁ e₂ e₃ e₄ e₅ e₆ e₇ f = cc
 
 -- a record of no kind is refused
-pub step_none : (arity : ℕ) (dynamic : Bool) (known : ℕ → Bool) (total n : ℕ) (r : Rec) (s : Waits) (u : UnknownKind) → kind_in n ≡ Err u
+pub step_none : (arity : ℕ) (dynamic : Bool) (known : ℕ → Bool) (total n : ℕ) (r : Rec) (s : Waits) (u : UnknownByte) → kind_in n ≡ Err u
     → step_ok arity dynamic known total n r s ≡ false
 unfolding step_ok
 step_none arity dynamic known total n r s u e = go (eqb n 1) (eqb n 2) (eqb n 3) (eqb n 4) (eqb n 5) (eqb n 6) (eqb n 7) e
   where
     go : (b₁ b₂ b₃ b₄ b₅ b₆ b₇ : Bool)
-        → ◌≡◌ {A = Result Kind UnknownKind}
+        → ◌≡◌ {A = Result Kind UnknownByte}
         (cond b₁ (Ok Line) (cond b₂ (Ok Switch) (cond b₃ (Ok OnDemand) (cond b₄ (Ok Dead) (cond b₅ (Ok Entry) (cond b₆ (Ok Choice)
         (cond b₇ (Ok DeadClause) (Err (record { 0 = n }))))))))) (Err u)
         → cond b₁ (line_step dynamic total r s)

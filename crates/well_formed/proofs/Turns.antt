@@ -6,11 +6,11 @@ use mathlib.Core.List.{List, [], ◌∷◌, map}
 use Prim.Native.Nat.{ℕ, suc, ◌≤◌}
 use native.Mathlib.Numerals.{add-one}
 use native.Mathlib.Omega.{arith}
+use Rattle.std.proofs.lemmas.Bool.{and_parts, eqb-true, false≢true}
+use Rattle.std.specs.List.{AllByRecursion}
 use lib.Dec.{eqb, leb}
 use lib.ListN.{length, take}
 use Rattle.records.specs.declared.Rec.{Rec}
-use Rattle.indexing.proofs.Lists.{All}
-use Rattle.indexing.proofs.Tests.{bool-absurd, eqb-true, and-true}
 use Rattle.indexing.specs.Lines.{Ptr, Entry, switch, on_demand, dead, offs}
 use Rattle.indexing.specs.Reading.{pointer_from, entry_from, Waiting, waiting, read, read_all}
 use Rattle.well_formed.specs.Pass.{first_of, first_arg, first_group, group_bound, reach, waits, group_by_sort, form_ok, rises, tag_in, idle, bare, table_step}
@@ -39,12 +39,12 @@ turn-of k r w = go (eqb k 1) (eqb k 2) (eqb k 3) (eqb k 4) (eqb k 5) (eqb k 6) r
         (cond b₅ (waiting (entry_from r ∷ w.entries) w.deads w.tables w.choices w.lines)
         (cond b₆ (waiting w.entries w.deads w.tables (record { tag = r.sub; offset = r.word } ∷ w.choices) w.lines)
         (waiting w.entries (r.word ∷ w.deads) w.tables w.choices w.lines)))))))
-    go true b₂ b₃ b₄ b₅ b₆ e₁ e₂ e₃ e₄ e₅ e₆ = turn-line (eqb-true e₁)
-    go false true b₃ b₄ b₅ b₆ e₁ e₂ e₃ e₄ e₅ e₆ = turn-switch (eqb-true e₂)
-    go false false true b₄ b₅ b₆ e₁ e₂ e₃ e₄ e₅ e₆ = turn-demand (eqb-true e₃)
-    go false false false true b₅ b₆ e₁ e₂ e₃ e₄ e₅ e₆ = turn-dead (eqb-true e₄)
-    go false false false false true b₆ e₁ e₂ e₃ e₄ e₅ e₆ = turn-entry (eqb-true e₅)
-    go false false false false false true e₁ e₂ e₃ e₄ e₅ e₆ = turn-choice (eqb-true e₆)
+    go true b₂ b₃ b₄ b₅ b₆ e₁ e₂ e₃ e₄ e₅ e₆ = turn-line (eqb-true _ _ e₁)
+    go false true b₃ b₄ b₅ b₆ e₁ e₂ e₃ e₄ e₅ e₆ = turn-switch (eqb-true _ _ e₂)
+    go false false true b₄ b₅ b₆ e₁ e₂ e₃ e₄ e₅ e₆ = turn-demand (eqb-true _ _ e₃)
+    go false false false true b₅ b₆ e₁ e₂ e₃ e₄ e₅ e₆ = turn-dead (eqb-true _ _ e₄)
+    go false false false false true b₆ e₁ e₂ e₃ e₄ e₅ e₆ = turn-entry (eqb-true _ _ e₅)
+    go false false false false false true e₁ e₂ e₃ e₄ e₅ e₆ = turn-choice (eqb-true _ _ e₆)
     go false false false false false false e₁ e₂ e₃ e₄ e₅ e₆ = turn-other e₁ e₂ e₃ e₄ e₅ e₆
 
 -- the state has at most one line and one entry more
@@ -89,14 +89,14 @@ module _ (dynamic : Bool) (known : ℕ → Bool) where
 -- ---- the entries with no switch yet are the records in front
 
 abbrev pub Forms : List Rec → Type 0
-Forms qs = All (λ (q : Rec). form_ok q.sub q.half q.long ≡ true) qs
+Forms qs = AllByRecursion (λ (q : Rec). form_ok q.sub q.half q.long ≡ true) qs
 
 abbrev pub Behind : List (Entry Ptr) → List Rec → Type 0
 Behind es rs = (es ≡ map entry_from (take (length es) rs)) × Forms (take (length es) rs)
 
 cond-left : (b x : Bool) → cond b x false ≡ true → x ≡ true
 cond-left true x e = e
-cond-left false x e = bool-absurd e refl
+cond-left false x e = absurd (false≢true e)
 
 behind-none : (es : List (Entry Ptr)) (rs : List Rec) → es ≡ [] → Behind es rs
 behind-none es rs e = rw e (refl, tt)
@@ -110,31 +110,31 @@ module _ (arity : ℕ) (dynamic : Bool) (known : ℕ → Bool) (total : ℕ) whe
   turn-behind {r = r} {w = w} rs (turn-demand e) t b =
       let u : demand_step arity r (waits dynamic known w) ≡ true = rw e at t in
       behind-none w.entries (r ∷ rs) (no_items w.entries
-      (idle-told (waits dynamic known w) (and-true (idle (waits dynamic known w)) (table_step arity r (waits dynamic known w)) u).0).0)
+      (idle-told (waits dynamic known w) (and_parts (idle (waits dynamic known w)) (table_step arity r (waits dynamic known w)) u).0).0)
   turn-behind {r = r} {w = w} rs (turn-dead e) t b =
       let u : dead_step arity r (waits dynamic known w) ≡ true = rw e at t in
-      behind-none w.entries (r ∷ rs) (no_items w.entries (and-true (eqb (length w.entries) 0) (table_step arity r (waits dynamic known w)) u).0)
+      behind-none w.entries (r ∷ rs) (no_items w.entries (and_parts (eqb (length w.entries) 0) (table_step arity r (waits dynamic known w)) u).0)
   turn-behind {r = r} {w = w} rs (turn-entry e) t b =
       let u : entry_step r (waits dynamic known w) ≡ true = rw e at t in
-      let x = and-true (form_ok r.sub r.half r.long) (leb (group_by_sort r.sub) (group_bound (first_group w.entries))) u in
+      let x = and_parts (form_ok r.sub r.half r.long) (leb (group_by_sort r.sub) (group_bound (first_group w.entries))) u in
       (ap (λ (es : List (Entry Ptr)). entry_from r ∷ es) b.0, (x.0, b.1))
   turn-behind {r = r} {w = w} rs (turn-choice e) t b =
       let u : choice_step dynamic known r (waits dynamic known w) ≡ true = rw e at t in
       behind-none w.entries (r ∷ rs) (no_items w.entries
-      (idle-told (waits dynamic known w) (and-true (idle (waits dynamic known w))
+      (idle-told (waits dynamic known w) (and_parts (idle (waits dynamic known w))
       (eqb (first_arg w.tables) 33 && (bare r && (tag_in dynamic r.sub && rises known r.word (first_of (offs w.choices))))) u).0).0)
   turn-behind {k = k} {r = r} {w = w} rs (turn-other e₁ e₂ e₃ e₄ e₅ e₆) t b =
       let u : clause_step known r (waits dynamic known w) ≡ true =
       cond-left (eqb k 7) (clause_step known r (waits dynamic known w)) (rw (e₁, e₂, e₃, e₄, e₅, e₆) at t) in
       behind-none w.entries (r ∷ rs) (no_items w.entries
-      (and-true (eqb (length w.entries) 0) (eqb r.sub 0 && (bare r && rises known r.word (first_of w.deads))) u).0)
+      (and_parts (eqb (length w.entries) 0) (eqb r.sub 0 && (bare r && rises known r.word (first_of w.deads))) u).0)
 
   pub pass-behind : (rs : List Rec) → pass arity dynamic known total nothing rs ≡ true → Behind (read_all rs nothing).entries rs
   unfolding pass
   pass-behind [] e = (refl, tt)
   pass-behind (r ∷ rs) e =
       let w = read_all rs nothing in
-      let x = and-true (step_ok arity dynamic known total r.kind r (waits dynamic known w) && keys_once r.kind w.entries)
+      let x = and_parts (step_ok arity dynamic known total r.kind r (waits dynamic known w) && keys_once r.kind w.entries)
       (pass arity dynamic known total nothing rs) e in
-      let y = and-true (step_ok arity dynamic known total r.kind r (waits dynamic known w)) (keys_once r.kind w.entries) x.0 in
+      let y = and_parts (step_ok arity dynamic known total r.kind r (waits dynamic known w)) (keys_once r.kind w.entries) x.0 in
       turn-behind rs (turn-of r.kind r w) y.0 (pass-behind rs x.1)

@@ -2,6 +2,7 @@
 -- Inner definitions, for the contracts of this crate's functions; proofs/PassIs shows that the check's answer is well_formed's.
 -- Assumes nothing.
 use Rattle.std.specs.Prelude.{◌≡◌, Bool, true, false, cond, not, ◌&&◌, ◌||◌, List, [], ◌∷◌, Option, None, Some, ℕ, zero, suc, ◌+◌, ◌-◌, eqb, leb, ltb, length, get_or, set, take}
+use Rattle.std.specs.List.{list_any}
 use Rattle.records.specs.declared.Rec.{Rec}
 use Rattle.indexing_iter.specs.declared.OptArgIndexKey.{OptArgIndexKey as Key}
 use Rattle.indexing_iter.specs.declared.group.Group.{Group}
@@ -9,7 +10,6 @@ use Rattle.indexing_iter.specs.declared.group.Group.TheVariants.{Literals, List 
 use Rattle.indexing_iter.specs.Groups.{group_number}
 use Rattle.indexing_iter.specs.Keys.{group_of, same}
 use Rattle.indexing_iter.specs.Clauses.{known}
-use Rattle.indexing.specs.Lists.{any_of}
 use Rattle.indexing.specs.Lines.{Ptr, ext, int, Entry, Table, arg_of, Index, line_at, offs, mode_of}
 use Rattle.indexing.specs.Reading.{Waiting, waiting, read_all, parse}
 use Rattle.well_formed.specs.WellFormed.{entry_keys}
@@ -218,7 +218,7 @@ distinct_keys (r ∷ rs) = let rest = distinct_keys rs in not (among r rs) && re
 -- no two of some keys are equal
 abbrev pub once : List Key → Bool
 once [] = true
-once (k ∷ ks) = not (any_of (same k) ks) && once ks
+once (k ∷ ks) = not (list_any (same k) ks) && once ks
 
 -- a record of kind k passes in front of the records behind: of a switch, the keys of its entries too
 abbrev pub passed_by : ℕ → Bool → (ℕ → Bool) → ℕ → ℕ → Rec → Waits → List Rec → Bool

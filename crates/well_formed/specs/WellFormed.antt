@@ -2,11 +2,11 @@
 -- The record count against the capacity is the caller's.
 -- Assumes nothing.
 use Rattle.std.specs.Prelude.{Bool, true, false, not, ◌&&◌, List, [], ◌∷◌, ℕ, suc, ◌+◌, eqb, leb, ltb, length}
+use Rattle.std.specs.List.{list_all, list_any}
 use Rattle.records.specs.declared.Rec.{Rec}
 use Rattle.indexing_iter.specs.declared.OptArgIndexKey.{OptArgIndexKey as Key}
 use Rattle.indexing_iter.specs.declared.OptArgIndexKey.TheVariants.{None, Literal, Structure, List as ListKey}
 use Rattle.indexing_iter.specs.Keys.{group_of, same}
-use Rattle.indexing.specs.Lists.{any_of, every}
 use Rattle.indexing.specs.Lines.{Ptr, ext, int, Entry, Table, switch, on_demand, dead, arg_of, Choice, Line, Index, line_at, offs, mode_of, records}
 use Rattle.indexing.specs.Reading.{parse}
 
@@ -30,7 +30,7 @@ key_ok ListKey = true
 -- number 12, the keys of a switch: literals, list, structures, from the group g on, all distinct
 abbrev pub keys_ok : ℕ → List Key → Bool
 keys_ok g [] = true
-keys_ok g (k ∷ ks) = leb g (group_of k) && (key_ok k && (not (any_of (same k) ks) && keys_ok (group_of k) ks))
+keys_ok g (k ∷ ks) = leb g (group_of k) && (key_ok k && (not (list_any (same k) ks) && keys_ok (group_of k) ks))
 
 -- number 12: the keys of a switch's entries
 abbrev pub entry_keys : List (Entry Ptr) → List Key
@@ -50,7 +50,7 @@ some_ok false (c ∷ cs) = true
 
 -- number 12: the offsets of a line
 abbrev pub choices_ok : Bool → (ℕ → Bool) → List Choice → Bool
-choices_ok dynamic known cs = rising_ok known 1 (offs cs) && (every (tag_ok dynamic) cs && some_ok dynamic cs)
+choices_ok dynamic known cs = rising_ok known 1 (offs cs) && (list_all (tag_ok dynamic) cs && some_ok dynamic cs)
 
 module _ (arity : ℕ) (dynamic : Bool) (known : ℕ → Bool) (idx : Index) where
   -- number 12, a pointer of the switch on a in line l: external, of a known start, not dynamic; internal, to a line whose arguments exceed a
@@ -60,13 +60,13 @@ module _ (arity : ℕ) (dynamic : Bool) (known : ℕ → Bool) (idx : Index) whe
 
   -- number 12: a table of line l
   abbrev pub table_ok : ℕ → Table → Bool
-  table_ok l (switch a es) = keys_ok 1 (entry_keys es) && every (λ e. pointer_ok l a e.to) es
+  table_ok l (switch a es) = keys_ok 1 (entry_keys es) && list_all (λ e. pointer_ok l a e.to) es
   table_ok l (on_demand a) = true
   table_ok l (dead a os) = rising_ok known 1 os
 
   -- number 12: line l
   abbrev pub line_ok : ℕ → Line → Bool
-  line_ok l x = args_ok arity 1 x.tables && (every (table_ok l) x.tables && choices_ok dynamic known x.choices)
+  line_ok l x = args_ok arity 1 x.tables && (list_all (table_ok l) x.tables && choices_ok dynamic known x.choices)
 
   -- number 12: the lines from number l on
   abbrev pub lines_ok : ℕ → List Line → Bool

@@ -1,6 +1,7 @@
 // Number 12: whether a handed-in index is well formed. Its lines are counted, then its records are checked in one pass from the last to the
 // first, with the keys of each switch compared where its record is met.
 // count_lines and well_formed take a buffer with the number of its records: they are public, and the rest of the buffer is room for growth.
+// arity ≤ 32 is asked beside the arity: what is read here is an index, and a Program, which says it of its settings, has code besides.
 // A u32 becomes a usize by `as`: there is no From for it.
 #![tactic(auto)]
 
@@ -20,8 +21,8 @@ ghost use Rattle.indexing.specs.Chains.{Cleared};
 use indexing::kinds::Kind;
 use indexing_iter::group::Group;
 
-// marks holds numbers, as the definition `marked` reads them: a bool for each would be no plainer.
 // What an index is checked against: marks has a 1 at each offset of a clause; total is how many lines the index has.
+// marks holds numbers: may_rise and reach_of are public and take them as such, and a bool for each would ask more of their callers.
 #[derive(Clone, Copy)]
 pub struct Asked<'a> {
     pub marks: &'a [u8],
@@ -53,7 +54,7 @@ fn lines_in(index: &[u8]) -> usize
     let mut lines = 0;
     for i in (0..records::capacity(index)).rev() {
         let r = records::get(index, i);
-        lines += usize::from(r.kind == Kind::Line as u8);
+        lines += usize::from(r.kind == u8::from(Kind::Line));
     }
     lines
 }

@@ -5,4 +5,4 @@ use Rattle.index_size.proofs.size_checked.Goals as goal
 pub returns : goal.returns
 returns c =
     let C = c.fill.result.1 in
-    counted-by c.requires c.fill.ensures c.index_room.result (c.index_room.ensures C.bits.now C.lines.offs.now C.lines.tags.now)
+    counted-by c.args.build.now.chosen c.fill.ensures c.index_room.result (c.index_room.ensures C.bits.now C.lines.offs.now C.lines.tags.now)

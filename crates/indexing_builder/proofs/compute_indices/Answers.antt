@@ -1,35 +1,15 @@
 -- `compute_indices` hands a refusal on, and builds where the checks passed. Assumes nothing.
-use mathlib.Core.Path.{◌≡◌, sym, ◌∙◌}
-use native.Mathlib.Omega.{arith}
-use borrow.Author.Rules.{rules}
 use Rattle.std.proofs.lemmas.Result.{err_from_is_err_and}
-use Rattle.indexing_iter.specs.Refusals.{passed}
-use Rattle.indexing_iter.specs.Classes.{class_of}
-use Rattle.indexing_iter.specs.Checks.{check_build}
-use Rattle.index_writer.proofs.IndexLaws.{checked, below, small}
 use Rattle.indexing_builder.proofs.BuilderLaws.{refused-by}
-use Rattle.indexing_builder.proofs.compute_indices.Goals.{In_ok-check_build}
 use Rattle.indexing_builder.proofs.compute_indices.Goals as goal
 
-accepted : (c : In_ok-check_build) → check_build class_of c.args.settings.arity c.args.c c.args.code.now c.args.starts.now ≡ passed
-accepted c = sym c.check_build.ensures ∙ c.in_ok-check_build.was
-
-pub returns-in_err-check_build : goal.returns-in_err-check_build
-returns-in_err-check_build c =
+pub returns-in_err-build : goal.returns-in_err-build
+returns-in_err-build c =
     let a = c.args in
     let p = err_from_is_err_and c.from_residual.result c.from_residual.ensures.1 in
-    rw (p.1, p.2) (refused-by a.code.now a.starts.now a.settings a.c a.index.now _ (sym c.in_err-check_build.was ∙ c.check_build.ensures))
+    rw (p.1, p.2) (refused-by a.code.now a.starts.now a.settings a.c a.index.now _ c.in_err-build.ensures.value)
 
-pub invariant_of-program : goal.invariant_of-program
-invariant_of-program c =
-    let a = c.args in
-    record { bytes = λ i. search rules; checked = checked a.code.now a.starts.now a.settings a.c (accepted (goal.at.invariant_of-program c).In_ok-check_build) }
-
-pub overflow_cast-c : goal.overflow_cast-c
-overflow_cast-c c =
-    let a = c.args in
-    let p = accepted (goal.at.overflow_cast-c c).In_ok-check_build in
-    omega (arith, below a.code.now a.starts.now a.settings a.c p, small a.code.now a.starts.now a.settings a.c p)
-
-pub build_checked-requires : goal.build_checked-requires
-build_checked-requires c = accepted (goal.at.build_checked-requires c).In_ok-check_build
+pub returns : goal.returns
+returns c =
+    let m = c.in_ok-build.ensures.made in
+    rw (m.0, m.1, m.2, m.3) at c.build_checked.ensures

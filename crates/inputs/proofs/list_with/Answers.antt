@@ -14,10 +14,7 @@ slice_bounds-list_starts-end-2 c = let k = c.count_starts-k.result in
     let h = starts-small c.args.input.now k (search rules) (search rules) in
     sym (length-take-le k c.args.space.now (omega arith))
 
-pub list_starts-requires : goal.list_starts-requires
-list_starts-requires c = let k = c.count_starts-k in
+pub list_starts-requires-clause-starts_len : goal.list_starts-requires-clause-starts_len
+list_starts-requires-clause-starts_len c = let k = c.count_starts-k in
     let h = starts-small c.args.input.now k.result (search rules) (search rules) in
-    record {
-      input_len_bound = search rules;
-      starts_len = length-take-le k.result c.args.space.now (omega arith) ∙ k.ensures;
-    }
+    length-take-le k.result c.args.space.now (omega arith) ∙ k.ensures

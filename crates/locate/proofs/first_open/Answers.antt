@@ -40,10 +40,10 @@ place c =
     let found : c.body_at.result ≡ body_found cls rs = c.body_at.ensures in
     c.unwrap_or-at.ensures ∙ rw (found, c.capacity.ensures) (body-or-end cls rs)
 
-pub overflow_add-result : goal.overflow_add-result
-overflow_add-result c =
+pub overflow_add-at : goal.overflow_add-at
+overflow_add-at c =
     let one = c.clause-clause in
-    let at = (goal.at.overflow_add-result c).After-unwrap_or-at in
+    let at = (goal.at.overflow_add-at c).After-unwrap_or-at in
     omega (arith, one.ensures.places_in_range, place at, body-within (class_in one.result.table.now) (records_of one.result.code.now))
 
 pub returns : goal.returns

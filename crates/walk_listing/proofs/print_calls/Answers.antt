@@ -1,8 +1,5 @@
 -- Each call gets what the one before it left. Assumes nothing.
-use mathlib.Core.Path.{◌≡◌}
-use native.Mathlib.Omega.{arith}
-use Rattle.walk_inputs.specs.Plan.{heard_of}
-use Rattle.walk_inputs.specs.Run.{calls_of, at_first, onward}
+use Rattle.walk_inputs.specs.Run.{at_first, onward}
 use Rattle.walk_listing.proofs.print_calls.Goals as goal
 
 pub loop-i-init : goal.loop-i-init
@@ -11,8 +8,3 @@ loop-i-init c = at_first
 pub loop-i-preserved : goal.loop-i-preserved
 loop-i-preserved c = let w = c.walk_call-a in
     rw c.next_count-count.ensures (onward w.result _ _ c.loop-i.invariant w.ensures)
-
-pub returns : goal.returns
-returns c = let l = c.loop-i in
-    let e : calls_of (heard_of c.args.input.now) ≡ l.i = omega arith in
-    rw e l.invariant

@@ -8,16 +8,14 @@ use Rattle.listing.specs.Text.{decimal}
 use Rattle.walk_listing.proofs.TextLaws.{ended-parts}
 use Rattle.walk_listing.proofs.put_ended.Goals as goal
 
-pub returns : goal.returns
-returns c =
+pub returns-clause-text_after : goal.returns-clause-text_after
+returns-clause-text_after c =
     let n = c.put_number-records_at.ensures in
     let m = c.put_word-mark_at.ensures in
     let t = c.put_field-tables_at.ensures in
     let k = c.put_field-count_at.ensures in
     let l = c.put_field-line_at.ensures in
     let w = c.put_word.ensures in
-    let g : length c.args.text.now ≤ 106 = omega (arith, c) in record {
-      upper_bound = omega (arith, n.end_bound, m.word_value, t.end_bound, k.end_bound, l.end_bound, w.word_value, c.mark_word.ensures.len_bound, c.case_word.ensures.len_bound);
-      text_after = ended-parts c.args.e _ _ _ _ _ _ [] (n.text_after ∙ ap (decimal c.args.e.records) (drop_of_length-le c.args.text.now g)) (rw c.mark_word.ensures.value at m.text_after) (rw c.from.ensures at t.text_after)
-          k.text_after (rw c.from-2.ensures at l.text_after) (rw c.case_word.ensures.value at w.text_after);
-    }
+    let g : length c.args.text.now ≤ 106 = omega (arith, c) in
+    ended-parts c.args.e _ _ _ _ _ _ [] (n.text_after ∙ ap (decimal c.args.e.records) (drop_of_length-le c.args.text.now g)) (rw c.mark_word.ensures.value at m.text_after) (rw c.from.ensures at t.text_after)
+    k.text_after (rw c.from-2.ensures at l.text_after) (rw c.case_word.ensures.value at w.text_after)

@@ -33,8 +33,5 @@ loop-offset-preserved c =
       offsets_turn c.args.out.now l.offset-iterator.iter.rest.now c.next.new.self.iter.rest.now c.in-Some.offset.now _ _ s p.ensures.text_after l.invariant.3,
     )
 
-pub returns : goal.returns
-returns c = let l = c.loop-offset in record {
-  upper_bound = l.invariant.0;
-  text_after = sym (l.invariant.3 ∙ offsets-end l.offset-iterator.iter.rest.now _ c.in-None.ensures.steps.0);
-}
+pub returns-clause-text_after : goal.returns-clause-text_after
+returns-clause-text_after c = let l = c.loop-offset in sym (l.invariant.3 ∙ offsets-end l.offset-iterator.iter.rest.now _ c.in-None.ensures.steps.0)

@@ -5,7 +5,7 @@ use native.Mathlib.Omega.{arith}
 use Rattle.indexing.specs.Columns.{lines_to, entries}
 use Rattle.indexing_iter.specs.Groups.{group_number}
 use Rattle.index_writer.proofs.Gather.{gather-start, gather-room, gather-more, gather-end}
-use Rattle.index_writer.proofs.BucketLaws.{lines_start, lines_step, lines-le, distance-at, distance-grown}
+use Rattle.index_writer.proofs.BucketLaws.{lines_start, lines_step, lines-le, distance-grown}
 use Rattle.index_writer.specs.Written.{entry_by}
 use Rattle.index_writer.proofs.buckets.put_entries.Goals.{In-loop-i}
 use Rattle.index_writer.proofs.buckets.put_entries.Goals as goal
@@ -28,13 +28,8 @@ loop-i-init c =
       gather-start _ _ a.index.now a.p c.requires.by_in_bounds,
     )
 
-pub put_entry-q-requires : goal.put_entry-q-requires
-put_entry-q-requires c = let l = c.loop-i in
-    let t = c.loop-i-test.true in
-    record {
-      i_bound = (t, distance-at c.args.d c.args.by l.invariant.0 l.invariant.1 t c.requires.d_bound);
-      i_in_bounds = gather-room _ l.invariant.2 t (entry (goal.at.put_entry-q-requires c).In-loop-i);
-    }
+pub put_entry-q-requires-clause-i_in_bounds : goal.put_entry-q-requires-clause-i_in_bounds
+put_entry-q-requires-clause-i_in_bounds c = gather-room _ c.loop-i.invariant.2 c.loop-i-test.true (entry (goal.at.put_entry-q-requires-clause-i_in_bounds c).In-loop-i)
 
 pub loop-i-preserved : goal.loop-i-preserved
 loop-i-preserved c = let l = c.loop-i in

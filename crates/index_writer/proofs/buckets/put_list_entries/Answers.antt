@@ -39,12 +39,8 @@ returns-then-empty_list c =
     let e = c.entry.ensures ∙ ap (λ (h : ℕ). rec_of 5 (h / 65536 % 256) (h % 65536) c.line_pointer-word.result 0) c.head_of-head.ensures.0 in
     puts_one a.index.now w.new.index a.p (none (goal.at.returns-then-empty_list c).Then-empty_list) (e ∙ ap (λ (x : ℕ). rec_of 5 5 0 x 0) c.line_pointer-word.ensures) c.requires.by_in_bounds w.ensures
 
-pub put_entries-requires : goal.put_entries-requires
-put_entries-requires c =
-    record {
-      d_bound = c.requires.d_bound;
-      by_in_bounds = room_as c.args.p (some (goal.at.put_entries-requires c).Else-empty_list) c.requires.by_in_bounds;
-    }
+pub put_entries-requires-clause-by_in_bounds : goal.put_entries-requires-clause-by_in_bounds
+put_entries-requires-clause-by_in_bounds c = room_as c.args.p (some (goal.at.put_entries-requires-clause-by_in_bounds c).Else-empty_list) c.requires.by_in_bounds
 
 pub returns : goal.returns
 returns c =

@@ -17,13 +17,6 @@ loop-j-init c = let s = c.args in
     let l = length-leaders h b (length h) in
     (l, fill_start (leaders_to h b (length h)) s.leaders.now (omega arith), chained-none (leads_in h b) _ _ (λ d k. c.new-chains.ensures d))
 
-pub next_leader-requires : goal.next_leader-requires
-next_leader-requires c = let l = c.loop-j in
-    record {
-      j_in_bounds = search rules;
-      chained = l.invariant.2;
-    }
-
 pub loop-j-preserved : goal.loop-j-preserved
 loop-j-preserved c = let h = c.args.keys.now.heads.now in
     let n = c.next_leader in

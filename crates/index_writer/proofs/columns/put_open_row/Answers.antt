@@ -4,7 +4,7 @@ use mathlib.Core.Bool.{false, cond}
 use lib.Dec.{eqb, ltb}
 use lib.ListN.{get_or}
 use borrow.Author.Tests.{lt-ltb, le-ltb}
-use Rattle.indexing.specs.Upto.{bit}
+use Rattle.std.specs.Int.{from_bool}
 use native.Mathlib.Omega.{arith}
 use Rattle.records.proofs.Filled.{fill_start, fill_more}
 use Rattle.index_writer.specs.Choices.{open_numbers}
@@ -19,7 +19,7 @@ loop-b-init c = let a = c.args in
     (search rules, l, fill_start (open_numbers a.heads.now a.arity) a.opens.now (omega arith))
 
 -- argument b is open where it is one of the arguments and has head 0
-open-is : (c : After-from) → c.from.result ≡ bit (cond (ltb c.loop-b.b c.args.arity) (eqb (get_or c.args.heads.now c.loop-b.b 0) 0) false)
+open-is : (c : After-from) → c.from.result ≡ from_bool (cond (ltb c.loop-b.b c.args.arity) (eqb (get_or c.args.heads.now c.loop-b.b 0) 0) false)
 open-is c =
     c.from.ensures ∙ elim c.if-b-n.branch [
       | then-b-n w ↦ rw (w.from-is, lt-ltb _ _ w.if-b-n.true) refl

@@ -6,7 +6,6 @@ use Rattle.records.proofs.Filled.{fill_start, fill_more}
 use Rattle.indexing_iter.specs.Readings.{keys_by}
 use Rattle.indexing.proofs.BridgeColumns.{length-heads, length-bits, get_or-heads, get_d_bits}
 use Rattle.index_writer.proofs.ColumnLaws.{fill-whole, column-room, column-in, column-done, rows_start, row-wide, row_room, rows_more, rows_end}
-use borrow.Author.Rules.{rules}
 use Rattle.index_writer.proofs.columns.read_keys.Goals as goal
 
 pub loop-i-init : goal.loop-i-init
@@ -18,11 +17,6 @@ loop-i-init c =
     let b = length-bits K t.offs.now t.arg in
     let n = c.requires in
     (h, b, fill_start _ a.heads.now (column-room h n.0), fill_start _ a.bits.now (column-room b n.1), rows_start K t.program.settings.arity t.offs.now a.opens.now)
-
-pub read_row-k-requires : goal.read_row-k-requires
-read_row-k-requires c =
-    let t = c.args.line.now in
-    record { offset_value = t.all_known c.loop-i.i c.loop-i-test.true; le_a = (t.arg_bound.0, t.arg_bound.1, search rules) }
 
 pub loop-i-preserved : goal.loop-i-preserved
 loop-i-preserved c = let l = c.loop-i in

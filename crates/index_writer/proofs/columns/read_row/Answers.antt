@@ -10,14 +10,11 @@ use native.Mathlib.Omega.{arith}
 use borrow.Author.Rules.{rules}
 use Rattle.index_writer.proofs.columns.read_row.Goals as goal
 
-pub collect_opt_arg_index_keys-requires : goal.collect_opt_arg_index_keys-requires
-collect_opt_arg_index_keys-requires c =
+pub collect_opt_arg_index_keys-requires-clause-arity_in_bounds : goal.collect_opt_arg_index_keys-requires-clause-arity_in_bounds
+collect_opt_arg_index_keys-requires-clause-arity_in_bounds c =
     let p = c.args.program.now in
     let o = code_ok class_of p.settings.arity p.code.now p.starts.now p.checked in
-    record {
-      offset_value = c.requires.offset_value;
-      arity_in_bounds = (o.arity-to, o.arity-to);
-    }
+    (o.arity-to, o.arity-to)
 
 pub put_open_row-requires : goal.put_open_row-requires
 put_open_row-requires c =

@@ -1,12 +1,14 @@
 -- `counting::count_if` counts the numbers that pass a test, one a turn. Assumes nothing.
-use mathlib.Core.Path.{sym, ◌∙◌}
+use mathlib.Core.Path.{refl, sym, ◌∙◌}
 use native.Mathlib.Omega.{arith}
-use Rattle.index_writer.proofs.Upto.{count_none, count-more, count-skip}
+use Rattle.indexing.specs.Upto.{count_to}
+use Rattle.index_writer.proofs.Upto.{count-step}
 use Rattle.index_writer.proofs.counting.count_if.Goals.{then-passes, else-passes}
 use Rattle.index_writer.proofs.counting.count_if.Goals as goal
 
 pub loop-i-init : goal.loop-i-init
-loop-i-init g c = (omega arith, omega arith, λ t h. sym (count_none t))
+unfolding count_to
+loop-i-init g c = (omega arith, omega arith, λ t h. refl)
 
 pub loop-i-preserved : goal.loop-i-preserved
 loop-i-preserved g c =
@@ -15,11 +17,11 @@ loop-i-preserved g c =
       | then-passes w ↦ (
         omega arith,
         omega arith,
-        λ t h. omega (arith, w.k-is, c.loop-i.invariant.2 t h, count-more t c.loop-i.i (sym (h _ _ c.loop-i-test.true e) ∙ w.if-passes.true)),
+        λ t h. omega (arith, w.k-is, c.loop-i.invariant.2 t h, count-step t c.loop-i.i (sym (h _ _ c.loop-i-test.true e) ∙ w.if-passes.true)),
       )
       | else-passes w ↦ (
         omega arith,
         omega arith,
-        λ t h. omega (arith, w.k-is, c.loop-i.invariant.2 t h, count-skip t c.loop-i.i (sym (h _ _ c.loop-i-test.true e) ∙ w.if-passes.false)),
+        λ t h. omega (arith, w.k-is, c.loop-i.invariant.2 t h, count-step t c.loop-i.i (sym (h _ _ c.loop-i-test.true e) ∙ w.if-passes.false)),
       )
     ]

@@ -9,12 +9,8 @@ unfolding dead_clauses
 loop-j-init c = let a = c.args in
     gather-start _ _ a.index.now a.p c.requires
 
-pub put_dead_clause-q-requires : goal.put_dead_clause-q-requires
-put_dead_clause-q-requires c =
-    record {
-      j_bound = c.loop-j-test.true;
-      j_in_bounds = gather-room _ c.loop-j.invariant c.loop-j-test.true refl;
-    }
+pub put_dead_clause-q-requires-clause-j_in_bounds : goal.put_dead_clause-q-requires-clause-j_in_bounds
+put_dead_clause-q-requires-clause-j_in_bounds c = gather-room _ c.loop-j.invariant c.loop-j-test.true refl
 
 pub loop-j-preserved : goal.loop-j-preserved
 loop-j-preserved c = let w = c.put_dead_clause-q in

@@ -1,16 +1,16 @@
 -- `later_tables::tables_room` counts the records of a line's tables: after t turns those of t tables. Assumes nothing.
-use mathlib.Core.Path.{◌≡◌, sym, ap, ◌∙◌}
+use mathlib.Core.Path.{◌≡◌, refl, ap, ◌∙◌}
 use Prim.Native.Nat.{ℕ, ◌+◌}
 use native.Mathlib.Omega.{arith}
 use lib.ListN.{length}
 use Rattle.indexing.specs.Upto.{list_to}
 use Rattle.indexing.specs.Columns.{table_at, tables_at}
-use Rattle.index_writer.proofs.Upto.{list-none}
 use Rattle.index_writer.proofs.LineLaws.{length_more}
 use Rattle.index_writer.proofs.later_tables.tables_room.Goals as goal
 
 pub loop-t-init : goal.loop-t-init
-loop-t-init c = (omega arith, omega arith, λ offs. sym (ap length (list-none _)))
+unfolding list_to
+loop-t-init c = (omega arith, omega arith, λ offs. refl)
 
 pub loop-t-preserved : goal.loop-t-preserved
 loop-t-preserved c =

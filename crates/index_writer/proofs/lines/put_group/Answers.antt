@@ -4,7 +4,7 @@ use mathlib.Core.Path.{◌≡◌, refl, sym, ap, ◌∙◌}
 use Prim.Native.Nat.{ℕ, ◌+◌}
 use native.Mathlib.Omega.{arith}
 use mathlib.Core.Bool.{Bool, true}
-use Rattle.indexing.specs.Upto.{bit}
+use Rattle.std.specs.Int.{from_bool}
 use Rattle.indexing.specs.Columns.{opens_line, lines_to, line_at, group_lines}
 use Rattle.indexing_iter.specs.Groups.{group_number}
 use Rattle.index_writer.proofs.BucketLaws.{lines_start, lines_step, lines-le}
@@ -34,10 +34,10 @@ line c e = let l = c.args.lines.now in
 lines : (c : After-opens_line)
     → let l = c.args.lines.now in
     lines_to l.rooms.buckets.heads.leaders.now l.rooms.buckets.heads.heads.now l.rooms.switched.settings.dynamic (group_number c.args.g) (c.loop-i.i + 1)
-    ≡ lines_to l.rooms.buckets.heads.leaders.now l.rooms.buckets.heads.heads.now l.rooms.switched.settings.dynamic (group_number c.args.g) c.loop-i.i + bit c.opens_line.result
+    ≡ lines_to l.rooms.buckets.heads.leaders.now l.rooms.buckets.heads.heads.now l.rooms.switched.settings.dynamic (group_number c.args.g) c.loop-i.i + from_bool c.opens_line.result
 lines c = let l = c.args.lines.now in
     lines_step l.rooms.buckets.heads.leaders.now l.rooms.buckets.heads.heads.now l.rooms.switched.settings.dynamic (group_number c.args.g) c.loop-i.i
-    ∙ ap (λ (b : Bool). lines_to l.rooms.buckets.heads.leaders.now l.rooms.buckets.heads.heads.now l.rooms.switched.settings.dynamic (group_number c.args.g) c.loop-i.i + bit b) (sym (opens c))
+    ∙ ap (λ (b : Bool). lines_to l.rooms.buckets.heads.leaders.now l.rooms.buckets.heads.heads.now l.rooms.switched.settings.dynamic (group_number c.args.g) c.loop-i.i + from_bool b) (sym (opens c))
 
 pub loop-i-init : goal.loop-i-init
 unfolding group_lines
@@ -59,14 +59,14 @@ loop-i-preserved c =
     let le = lines-le l.rooms.buckets.heads.leaders.now l.rooms.buckets.heads.heads.now l.rooms.switched.settings.dynamic (group_number c.args.g) (c.loop-i.i + 1) in
     elim c.if-opens_line.branch [
       | then-opens_line w ↦
-          let one : bit c.opens_line.result ≡ 1 = ap bit w.if-opens_line.true in
+          let one : from_bool c.opens_line.result ≡ 1 = ap from_bool w.if-opens_line.true in
           let p = w.put_new_line-q in (
             omega (arith, w.number-is, lines s, one),
             le,
             rw (w.index-is, w.q-is) (gather-more p.new.index p.result _ c.loop-i.invariant.2 c.loop-i-test.true (line s w.if-opens_line.true) p.auto.index p.ensures),
           )
       | else-opens_line w ↦
-          let none : bit c.opens_line.result ≡ 0 = ap bit w.if-opens_line.false in
+          let none : from_bool c.opens_line.result ≡ 0 = ap from_bool w.if-opens_line.false in
           let e = line-no l.rooms.buckets.heads.leaders.now l.rooms.buckets.heads.heads.now l.rooms.opens.now l.offs.now l.tags.now l.rooms.switched.settings l.rooms.switched.arg (group_number c.args.g) _ c.loop-i.i (sym (opens s) ∙ w.if-opens_line.false) in (
             omega (arith, w.number-is, lines s, none),
             le,

@@ -1,10 +1,10 @@
 -- `lines::put_line` writes the line record, and the rest of the line after it. Assumes nothing.
-use mathlib.Core.Path.{ap, ◌∙◌}
-use mathlib.Core.List.{[], ◌∷◌, ◌++◌}
-use Prim.Native.Nat.{ℕ}
+use mathlib.Core.Path.{ap}
+use mathlib.Core.List.{[]}
 use native.Mathlib.Omega.{arith}
 use lib.ListN.{length}
 use Rattle.records.specs.Records.{rec_of}
+use Rattle.indexing.specs.Lines.{mode_of}
 use Rattle.records.proofs.Laws.{length-records_of}
 use Rattle.records.proofs.Grown.{grow-start, grow-one, grow-run, grow-end, grow-as}
 use Rattle.index_writer.proofs.LineLaws.{rest_of, line-parts}
@@ -35,8 +35,7 @@ returns c =
     let v = c.put_rest in
     let rest = rest_of a.clauses.now.tables.opens.leaders.now a.clauses.now.tables.opens.opens.now a.clauses.now.tables.offs.now a.clauses.now.tags.now a.switched.settings a.switched.arg a.i in
     let e = line-parts a.clauses.now.tables.opens.leaders.now a.clauses.now.tables.opens.opens.now a.clauses.now.tables.offs.now a.clauses.now.tags.now a.switched.settings a.switched.arg a.i [] a.number in
-    let m = ap (λ (x : ℕ). ([] ++ (rec_of 1 x 0 a.number 0 ∷ [])) ++ rest) c.mode_of-mode.ensures ∙ e in
     let g0 = grow-start a.index.now a.p (omega (arith, c)) in
-    let g1 = grow-one w.new.index (rec_of 1 c.mode_of-mode.result 0 a.number 0) g0 (omega (arith, c, ap length e)) w.auto.index (rw c.line.ensures at w.ensures) in
+    let g1 = grow-one w.new.index (rec_of 1 (mode_of a.switched.settings.dynamic) 0 a.number 0) g0 (omega (arith, c, ap length e)) w.auto.index (rw c.line-line.ensures at w.ensures) in
     let g2 = grow-run v.new.index v.result rest g1 v.ensures.0 (omega (arith, c, ap length e, v.ensures.0)) v.auto.index v.ensures.1 in
-    ((grow-as m g2).next, grow-end (grow-as m g2))
+    ((grow-as e g2).next, grow-end (grow-as e g2))

@@ -28,12 +28,8 @@ returns-then-empty_list c =
     let w = c.put_new_line in
     puts-as a.index.now w.new.index a.p w.result (none (goal.at.returns-then-empty_list c).Then-empty_list) w.ensures
 
-pub put_group-requires : goal.put_group-requires
-put_group-requires c =
-    record {
-      first_bound = c.requires.number_bound;
-      first_in_bounds = room_as c.args.p (some (goal.at.put_group-requires c).Else-empty_list) c.requires.number_in_bounds;
-    }
+pub put_group-requires-clause-first_in_bounds : goal.put_group-requires-clause-first_in_bounds
+put_group-requires-clause-first_in_bounds c = room_as c.args.p (some (goal.at.put_group-requires-clause-first_in_bounds c).Else-empty_list) c.requires.number_in_bounds
 
 pub returns : goal.returns
 returns c =

@@ -1,5 +1,4 @@
 -- `lines::put_rest` writes the tables of a line, and its offsets after them. Assumes nothing.
-use native.Mathlib.Omega.{arith}
 use mathlib.Core.Path.{refl}
 use Rattle.index_writer.proofs.Left.{Left, left-start, left-room, left-run, left-all}
 use Rattle.index_writer.proofs.LineLaws.{tables_of, choices_of, rest_of}
@@ -21,23 +20,15 @@ after-tables c =
     let w = c.put_tables-q in
     left-run w.new.index w.result _ _ (left-start c.args.index.now c.args.p _ _ refl c.requires) w.ensures.0 w.auto.index w.ensures.1
 
-pub put_tables-q-requires : goal.put_tables-q-requires
-put_tables-q-requires c =
+pub put_tables-q-requires-clause-k_in_bounds : goal.put_tables-q-requires-clause-k_in_bounds
+put_tables-q-requires-clause-k_in_bounds c =
     let a = c.args in
     let tables = tables_of a.clauses.now.tables.opens.leaders.now a.clauses.now.tables.opens.opens.now a.clauses.now.tables.offs.now a.clauses.now.tags.now a.switched.settings a.switched.arg a.i in
     let choices = choices_of a.clauses.now.tables.opens.leaders.now a.clauses.now.tables.opens.opens.now a.clauses.now.tables.offs.now a.clauses.now.tags.now a.switched.settings a.switched.arg a.i in
-    record {
-      le_b = omega (arith, a.switched.arg_bound, a.switched.arity_bound);
-      k_in_bounds = left-room tables choices (begin (goal.at.put_tables-q-requires c).Start);
-    }
+    left-room tables choices (begin (goal.at.put_tables-q-requires-clause-k_in_bounds c).Start)
 
-pub put_choices-requires : goal.put_choices-requires
-put_choices-requires c =
-    record {
-      few = c.args.clauses.now.tables.opens.few;
-      n_value = c.count_members-n.ensures.value;
-      i_in_bounds = (after-tables (goal.at.put_choices-requires c).After-put_tables-q).room;
-    }
+pub put_choices-requires-clause-i_in_bounds : goal.put_choices-requires-clause-i_in_bounds
+put_choices-requires-clause-i_in_bounds c = (after-tables (goal.at.put_choices-requires-clause-i_in_bounds c).After-put_tables-q).room
 
 pub returns : goal.returns
 returns c = let w = c.put_choices in

@@ -1,29 +1,17 @@
 -- 3 to 7: the first refusal is handed on. Assumes nothing.
-use mathlib.Core.Path.{refl, sym, ◌∙◌}
+use mathlib.Core.Path.{refl}
 use Rattle.std.proofs.lemmas.Result.{err_from_is_err_and}
-use Rattle.indexing_iter.specs.Checks.{check_clauses_of}
-use Rattle.indexing_iter.proofs.CheckLaws.{rising-passed}
+use Rattle.indexing_iter.specs.Readings.{class_by}
+use Rattle.indexing_iter.proofs.CheckLaws.{clauses-after}
 use Rattle.indexing_iter.proofs.checks.check_clauses_of.Goals as goal
 
-pub returns-in_err-check_size : goal.returns-in_err-check_size
-unfolding check_clauses_of
-returns-in_err-check_size c =
+pub returns-in_err-clauses : goal.returns-in_err-clauses
+returns-in_err-clauses c = let a = c.args in
     let p = err_from_is_err_and c.from_residual.result c.from_residual.ensures.1 in
-    rw (p.1, p.2, ← c.check_size.ensures, c.in_err-check_size.was) refl
-
-pub returns-in_err-check_starts : goal.returns-in_err-check_starts
-unfolding check_clauses_of
-returns-in_err-check_starts c =
-    let r = c.from_residual-in_err-check_starts in
-    let p = err_from_is_err_and r.result r.ensures.1 in
-    rw (p.1, p.2, ← c.check_size.ensures, c.in_ok-check_size.was, ← c.check_starts.ensures, c.in_err-check_starts.was) refl
-
-pub invariant_of-clauses : goal.invariant_of-clauses
-invariant_of-clauses c =
-    let a = c.args in
-    record { rising = rising-passed a.reader.now.code.now a.starts.now (sym c.check_starts.ensures ∙ c.in_ok-check_starts.was) }
+    rw (p.1, p.2, clauses-after (class_by a.reader.now) a.arity a.reader.now.code.now a.starts.now, ← c.in_err-clauses.ensures.value) refl
 
 pub returns : goal.returns
-unfolding check_clauses_of
-returns c =
-    rw (← c.check_size.ensures, c.in_ok-check_size.was, ← c.check_starts.ensures, c.in_ok-check_starts.was) c.check_clauses.ensures
+returns c = let a = c.args in
+    let made = c.in_ok-clauses.ensures.made in
+    rw (clauses-after (class_by a.reader.now) a.arity a.reader.now.code.now a.starts.now, ← c.in_ok-clauses.ensures.value)
+    (rw (made.0, made.1, made.2) at c.check_clauses.ensures)

@@ -29,8 +29,8 @@ turn c =
     let here = rw (one.ensures.classes, one.ensures.records) at told in
     rw (refused-step (class_in s.reader.table.now) s.arity rs s.starts.now c.loop-k.k h, ← here) at c.loop-k.invariant
 
-pub overflow_add-result : goal.overflow_add-result
-overflow_add-result c =
+pub overflow_add-at : goal.overflow_add-at
+overflow_add-at c =
     let clause = c.clause-clause in
     let rs = records_of clause.result.code.now in
     omega (arith, clause.ensures.places_in_range, told-within (class_in clause.result.table.now) c.args.clauses.now.arity rs _ c.in-Some.refusal c.in-Some.at c.in-Some.ensures)

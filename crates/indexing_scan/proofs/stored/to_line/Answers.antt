@@ -1,5 +1,5 @@
 -- The d-th line record: what is left of the way from place i on, with the places passed, is the whole. Assumes nothing.
-use mathlib.Core.Path.{ap, ◌∙◌}
+use mathlib.Core.Path.{ap, sym, ◌∙◌}
 use mathlib.Core.Bool.{true, false}
 use Prim.Native.Nat.{ℕ, ◌+◌}
 use native.Mathlib.Omega.{arith}
@@ -9,7 +9,7 @@ use Rattle.records.specs.Records.{records_of}
 use Rattle.indexing_scan.specs.Places.{through_line, behind_line}
 use Rattle.indexing_scan.proofs.Turns.{line-turn, line-zero, line-end}
 use Rattle.indexing_scan.proofs.stored.to_line.Goals as goal
-use Rattle.indexing_scan.proofs.stored.to_line.Goals.{then-get, else-get}
+use Rattle.indexing_scan.proofs.stored.to_line.Goals.{then-get-from, else-get-from}
 
 pub returns-then-left-eq0 : goal.returns-then-left-eq0
 unfolding behind_line
@@ -27,9 +27,10 @@ loop-i-preserved c =
     let u = line-turn (records_of s.index.now) l.i s.count r.result (omega arith) s.within r.ensures l.left in
     let z = c.if-left-eq0.false in
     let f : ℕ → ℕ = λ x. through_line x (slice (l.i + 1) s.count (records_of s.index.now)) in
-    elim c.if-get.branch [
-      | then-get w ↦ let v = u true z (eq-eqb _ _ w.if-get.true) in omega (arith, v, ap f w.left-is)
-      | else-get w ↦ let v = u false z (ne_eqb _ _ w.if-get.false) in omega (arith, v, ap f w.left-is)
+    let h = c.from.ensures in
+    elim c.if-get-from.branch [
+      | then-get-from w ↦ let v = u true z (eq-eqb _ _ (w.if-get-from.true ∙ h)) in omega (arith, v, ap f w.left-is)
+      | else-get-from w ↦ let v = u false z (ne_eqb _ _ (λ e. w.if-get-from.false (e ∙ sym h))) in omega (arith, v, ap f w.left-is)
     ]
 
 pub returns : goal.returns

@@ -1,4 +1,3 @@
-use mathlib.Core.Path.{◌∙◌}
 use Prim.Native.Nat.{ℕ}
 use borrow.Author.Rules.{rules}
 use Rattle.std.proofs.Common.{tests}
@@ -8,7 +7,8 @@ use Rattle.std.proofs.lemmas.Iterator.Search.{any_from_yields_List}
 use Rattle.indexing_iter.specs.Clauses.{known}
 use Rattle.indexing_iter.specs.Keys.{is_open}
 use Rattle.indexing_iter.specs.Readings.{keys_by}
-use Rattle.indexing_scan.proofs.HeldLaws.{known_in, open-any}
+use Rattle.indexing_scan.specs.Unstored.{any_open}
+use Rattle.indexing_scan.proofs.HeldLaws.{known_in}
 use Rattle.indexing_scan.proofs.unstored.any_open.Goals as goal
 
 pub any-requires-clause-callable : goal.any-requires-clause-callable
@@ -17,9 +17,9 @@ any-requires-clause-callable c = let l = c.args.clauses.now in
     (λ x k h e. let m = known_in (known c.args.program.now.starts.now) l x.now k c.requires h e in search rules)
 
 pub returns : goal.returns
+unfolding any_open
 returns c =
     let a = c.args in
     let K = keys_by a.program.now in
     any_from_yields_List (λ (o : ℕ). is_open (K o a.a)) _ _ c.any.result c.any.ensures.ran (YieldsList-from_slice a.clauses.now c.iter.ensures.rest)
     (λ x b q k. search (rules, tests))
-    ∙ open-any K a.a a.clauses.now

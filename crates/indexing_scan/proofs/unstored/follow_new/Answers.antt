@@ -2,13 +2,13 @@ use Prim.Native.Nat.{ℕ, ◌≤◌, ◌<◌}
 use mathlib.Core.List.{List, ◌++◌}
 use mathlib.Core.Path.{◌≡◌, sym, ap, ◌∙◌}
 use mathlib.Core.Bool.{true, false}
+use Rattle.std.specs.List.{list_all}
 use lib.ListN.{length, take, drop, get_or}
 use lib.Seq.{length-take-le}
 use Rattle.std.proofs.Common.{append_assoc, tests}
 use Rattle.indexing_scan.specs.declared.unstored.Step.TheVariants.{Only, Equal}
 use native.Mathlib.Omega.{arith}
 use Rattle.indexing_iter.specs.Clauses.{known}
-use Rattle.indexing.specs.Lists.{every}
 use Rattle.indexing_scan.specs.Unstored.{alike, like_to, all_same}
 use Rattle.indexing_scan.specs.Readings.{predicate_of}
 use Rattle.indexing_iter.specs.Readings.{keys_by}
@@ -50,11 +50,11 @@ grouped c = let a = c.args in
 grouped-known : (c : After-keep_if-n)
     → let a = c.args in
     let p = a.program.now in
-    every (known p.starts.now) (take c.keep_if-n.result c.keep_if-n.new.clauses) ≡ true
+    list_all (known p.starts.now) (take c.keep_if-n.result c.keep_if-n.new.clauses) ≡ true
 grouped-known c = let a = c.args in
     let p = a.program.now in
     let K = keys_by p in
-    ap (every (known p.starts.now)) (grouped c).front ∙ known-like (known p.starts.now) K true a.a a.q a.clauses.now (search rules)
+    ap (list_all (known p.starts.now)) (grouped c).front ∙ known-like (known p.starts.now) K true a.a a.q a.clauses.now (search rules)
 
 grouped-few : (c : After-keep_if-n) → c.keep_if-n.result ≤ length c.args.clauses.now
 grouped-few c = let a = c.args in
@@ -98,14 +98,14 @@ picked c =
     front_kept B (drop k.result G ++ drop c.keep_if-n.result list) (moved c) k.result (kept-k c).0
     (ap (λ l. l ++ drop c.keep_if-n.result list) (kept-k c).1 ∙ append_assoc B (drop k.result G) (drop c.keep_if-n.result list))
 
-picked-known : (c : After-keep_if-k) → every (known c.args.program.now.starts.now) (take c.keep_if-n.result c.keep_if-n.new.clauses) ≡ true
-    → every (known c.args.program.now.starts.now) (take c.keep_if-k.result (moved c)) ≡ true
+picked-known : (c : After-keep_if-k) → list_all (known c.args.program.now.starts.now) (take c.keep_if-n.result c.keep_if-n.new.clauses) ≡ true
+    → list_all (known c.args.program.now.starts.now) (take c.keep_if-k.result (moved c)) ≡ true
 picked-known c e =
     let a = c.args in
     let p = a.program.now in
     let K = keys_by p in
     let G = take c.keep_if-n.result c.keep_if-n.new.clauses in
-    ap (every (known p.starts.now)) (picked c).front ∙ known-like (known p.starts.now) K false a.a a.q G e
+    ap (list_all (known p.starts.now)) (picked c).front ∙ known-like (known p.starts.now) K false a.a a.q G e
 
 picked-few : (c : After-keep_if-k) → c.keep_if-n.result ≤ length c.keep_if-n.new.clauses → c.keep_if-n.result ≤ length c.args.clauses.now
     → c.keep_if-k.result ≤ length c.args.clauses.now

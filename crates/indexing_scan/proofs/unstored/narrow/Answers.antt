@@ -1,12 +1,12 @@
 use mathlib.Core.Path.{sym, ◌∙◌}
 use native.Mathlib.Omega.{arith}
+use Rattle.std.proofs.lemmas.Bool.{both_ways}
 use Rattle.indexing_iter.specs.Classes.{class_of}
 use Rattle.indexing_iter.proofs.CheckLaws.{code-arity}
 use Rattle.indexing_scan.specs.Unstored.{move_of}
 use Rattle.indexing_scan.specs.Readings.{predicate_of}
 use Rattle.indexing_scan.proofs.UnstoredLaws.{Unmasked, move-masked, move-none, move-over, move-dead, move-unbound, move-switch}
 use borrow.Author.Rules.{rules}
-use Rattle.indexing.proofs.Tests.{bool-absurd}
 use Rattle.indexing_scan.proofs.unstored.narrow.Goals.{After-any_open-open, else-open-via-then-open+else-not-program, else-open-via-else-open}
 use Rattle.indexing_scan.proofs.unstored.narrow.Goals as goal
 
@@ -45,7 +45,7 @@ returns-then-open-2-clause-clauses_after c =
     let m = unmasked (goal.at.returns-then-open-2-clause-clauses_after c).After-any_open-open in
     elim c.else-open.branch [
       | else-open-via-then-open+else-not-program w ↦ move-dead m a.q u.result u.ensures w.if-open.true w.if-not-program.false c.if-is_open.false
-      | else-open-via-else-open w ↦ bool-absurd c.if-open-2.true w.if-open.false
+      | else-open-via-else-open w ↦ absurd (both_ways _ w.if-open.false c.if-open-2.true)
     ]
 
 pub returns-clause-clauses_after : goal.returns-clause-clauses_after

@@ -11,8 +11,8 @@ use Rattle.index_writer.proofs.first_line.FirstLine.fill.Goals.{Start}
 use Rattle.index_writer.proofs.first_line.FirstLine.fill.Goals as goal
 
 -- there are at most 1,024 clauses
-clauses-few : (s : Start) → length s.args.program.now.starts.now ≤ 1024
-clauses-few s = let p = s.args.program.now in few p.code.now p.starts.now p.settings s.args.c s.requires
+clauses-few : (s : Start) → length s.args.build.now.program.starts.now ≤ 1024
+clauses-few s = let b = s.args.build.now in few b.program.code.now b.program.starts.now b.program.settings b.c b.chosen
 
 pub slice_bounds-offs-end : goal.slice_bounds-offs-end
 slice_bounds-offs-end c = clauses-few (goal.at.slice_bounds-offs-end c).Start
@@ -28,7 +28,7 @@ slice_bounds-tags-end-2 c = simp length-take (omega (arith, clauses-few (goal.at
 
 pub start_choices-requires : goal.start_choices-requires
 start_choices-requires c =
-    let p = c.args.program.now in
+    let p = c.args.build.now.program in
     record {
       offs_len = simp length-take (omega (arith, clauses-few (goal.at.start_choices-requires c).Start));
       numbers_below = starts-below class_of p.settings.arity p.code.now p.starts.now p.checked;
@@ -36,12 +36,13 @@ start_choices-requires c =
 
 pub invariant_of-line : goal.invariant_of-line
 invariant_of-line c =
-    let p = c.args.program.now in
+    let b = c.args.build.now in
+    let p = b.program in
     let o = c.start_choices in
     let m : length o.new.offs ≡ length p.starts.now = ap length o.ensures.offs_after ∙ length-map p.starts.now suc in
     record {
       all_known = subst (AllKnown p.starts.now) (sym o.ensures.offs_after) (offsets-known p.starts.now);
-      arg_bound = (above p.code.now p.starts.now p.settings c.args.c c.requires, below p.code.now p.starts.now p.settings c.args.c c.requires);
+      arg_bound = (above p.code.now p.starts.now p.settings b.c b.chosen, below p.code.now p.starts.now p.settings b.c b.chosen);
       few = omega (arith, m, clauses-few (goal.at.invariant_of-line c).Start);
     }
 

@@ -20,17 +20,23 @@ returns-then-test g c =
     λ holds n t C h.
     let x = c.loop.invariant.0 holds n C in
     let l : c.loop.number - 1 < n = omega (arith, c.if-number-eq0, x.within) in
-    (l, chain-own holds c.args.bucket n _ _ (omega (arith, c.if-number-eq0)) x, sym (h _ _ l c.test.ensures) ∙ c.if-test.true)
+    (l, chain-own holds c.args.bucket n _ _ _ (omega (arith, c.if-number-eq0)) x, sym (h _ _ l c.test.ensures) ∙ c.if-test.true)
 
 pub loop-preserved : goal.loop-preserved
 loop-preserved g c = (
   λ holds n C.
       rw c.from-number-in-loop.ensures
-      (chain_next holds c.args.bucket n _ _ C _ (c.loop.number - 1) (omega (arith, c.if-number-eq0)) (c.loop.invariant.0 holds n C)),
+      (chain_next holds c.args.bucket n _ _ C _ _ (c.loop.number - 1) (omega (arith, c.if-number-eq0)) (c.loop.invariant.0 holds n C)),
   λ holds n t C h.
       let x = c.loop.invariant.0 holds n C in
       rw c.from-number-in-loop.ensures
-      (failed-next holds c.args.bucket n _ _ C t _ (c.loop.number - 1) (omega (arith, c.if-number-eq0)) x
+      (failed-next holds c.args.bucket n _ _ C t _ _ (c.loop.number - 1) (omega (arith, c.if-number-eq0)) x
       (sym (h _ _ (omega (arith, c.if-number-eq0, x.within)) c.test.ensures) ∙ c.if-test.false)
       (c.loop.invariant.1 holds n t C h)),
 )
+
+pub returns : goal.returns
+returns g c =
+    λ holds n t C h.
+    let x = c.loop.invariant.0 holds n C in
+    (c.loop.number, x.within, omega (arith, x.behind, c.loop-test.false), c.loop.invariant.1 holds n t C h)
