@@ -70,6 +70,10 @@ impl<const BUCKETS: usize, const LINKS: usize> Chains<BUCKETS, LINKS> {
             }
             number = usize::from(self.links[i]);
         }
-        Searched::Open
+        if number == 0 {
+            Searched::Nowhere
+        } else {
+            Searched::Open
+        }
     }
 }

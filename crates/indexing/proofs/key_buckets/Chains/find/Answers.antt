@@ -35,6 +35,10 @@ loop-preserved g c = (
       (c.loop.invariant.1 holds n t C h)),
 )
 
+pub returns-then-number-eq0-2 : goal.returns-then-number-eq0-2
+returns-then-number-eq0-2 g c =
+    λ holds n t C h i k e. c.loop.invariant.1 holds n t C h i (omega (arith, c.if-number-eq0-2.true)) k e
+
 pub returns : goal.returns
 returns g c =
     λ holds n t C h.
