@@ -194,7 +194,7 @@ module _ (cls : ℕ → ℕ) (arity : ℕ) (code starts : List ℕ) where
   unfolding check_clauses_of
   clauses-after = in_turn (check_size code) (check_starts (length code / 16) starts) (check_clauses cls arity (clauses_of (records_of code) starts))
 
-  clauses-of-rising : check_clauses_of cls arity code starts ≡ passed → rising_below (length (records_of code)) starts ≡ true
+  pub clauses-of-rising : check_clauses_of cls arity code starts ≡ passed → rising_below (length (records_of code)) starts ≡ true
   clauses-of-rising e = rising-passed code starts (clauses-of-passed e).1
 
   -- ---- checked code: 1 and 3 to 7

@@ -359,14 +359,56 @@ body-or-end cls rs = go (has_body cls rs) refl
 pub body-within : (cls : ℕ → ℕ) (rs : List Rec) → body_at cls rs ≤ length rs
 body-within cls rs = first-within (says_body cls) rs
 
+bad-within : (cls : ℕ → ℕ) (arity : ℕ) (rs : List Rec) → bad_at cls arity rs ≤ length rs
+bad-within cls arity rs = omega (arith, first-within (λ front. is_refused (check_records cls arity front 0)) (fronts rs), length-fronts rs)
+
 pub record-within : (cls : ℕ → ℕ) (arity : ℕ) (e : Refusal) (rs : List Rec) → record_for cls arity e rs ≤ length rs
 record-within cls arity e rs = go (eqb (refusal_number e) 5) (eqb (refusal_number e) 8)
   where
     go : (five eight : Bool) → cond five (length rs - 1) (cond eight (body_at cls rs) (bad_at cls arity rs)) ≤ length rs
     go true eight = omega arith
     go false true = body-within cls rs
-    go false false = omega (arith, first-within (λ front. is_refused (check_records cls arity front 0)) (fronts rs), length-fronts rs)
+    go false false = bad-within cls arity rs
 
 pub told-within : (cls : ℕ → ℕ) (arity : ℕ) (rs : List Rec) (k : Checked) (e : Refusal) (i : ℕ) → Some (e, i) ≡ at_record cls arity rs k → i ≤ length rs
 told-within cls arity rs (Ok u) e i p = (cc)
 told-within cls arity rs (Err d) e i p = omega (arith, (some_pair_parts e d i (record_for cls arity d rs) p).1, record-within cls arity d rs)
+
+-- ---- no record before a 6 or 7 is a body record
+
+-- record r and those after it, by what r says
+behind-step : (cls : ℕ → ℕ) (arity : ℕ) (r : Rec) (rs : List Rec) (bad : Bool) (a : InstructionArg) (last left : ℕ) (later : ℕ → Checked) (at : ℕ → ℕ)
+    → instruction_arg cls r ≡ a → ((l : ℕ) → is_refused (later l) ≡ true → has_body cls (drop (at l) rs) ≡ has_body cls rs)
+    → is_refused (cond bad (Err KeyRecord) (register_step a arity last later)) ≡ true
+    → has_body cls (drop (bad_step bad a arity last left at) (r ∷ rs)) ≡ (is_body a || has_body cls rs)
+unfolding has_body
+behind-step cls arity r rs true a last left later at q f e = rw q refl
+behind-step cls arity r rs false NonHead last left later at q f e = absurd (false≢true e)
+behind-step cls arity r rs false Prologue last left later at q f e = f last e
+behind-step cls arity r rs false ArglessHead last left later at q f e = f last e
+behind-step cls arity r rs false (ArgedHead reg key) last left later at q f e = go (register_bad arity last reg) e
+  where
+    go : (t : Bool) → is_refused (cond t (Err Register) (later reg)) ≡ true → has_body cls (drop (cond t 0 (suc (at reg))) (r ∷ rs)) ≡ has_body cls rs
+    go true h = rw q refl
+    go false h = f reg h
+
+behind-from : (cls : ℕ → ℕ) (arity : ℕ) (rs : List Rec) (last : ℕ) → is_refused (check_records cls arity rs last) ≡ true
+    → has_body cls (drop (bad_from cls arity rs last) rs) ≡ has_body cls rs
+unfolding check_records has_body
+behind-from cls arity [] last e = absurd (false≢true e)
+behind-from cls arity (r ∷ rs) last e =
+    rw (bad-cons cls arity r rs last)
+    (behind-step cls arity r rs (record_bad (cls r.kind) r) (instruction_arg cls r) last (length rs) (check_records cls arity rs) (bad_from cls arity rs) refl (behind-from cls arity rs) e)
+
+pub refused-behind : (cls : ℕ → ℕ) (arity : ℕ) (rs : List Rec) (e : Refusal) (i : ℕ) → Err (e, i) ≡ passed_through cls arity rs
+    → (i ≤ length rs) × (has_body cls (drop i rs) ≡ has_body cls rs)
+refused-behind cls arity rs e i p = go (check_records cls arity rs 0) refl p
+  where
+    go : (k : Checked) → check_records cls arity rs 0 ≡ k → Err (e, i) ≡ ended_by k (body_found cls rs) (bad_at cls arity rs)
+        → (i ≤ length rs) × (has_body cls (drop i rs) ≡ has_body cls rs)
+    go (Ok u) q h = (cc)
+    go (Err d) q h =
+        let pair : ◌≡◌ {A = Refusal × ℕ} (e, i) (d, bad_at cls arity rs) = cc in
+        let here : i ≡ bad_at cls arity rs = ap (λ (w : Refusal × ℕ). w.1) pair in
+        let b : is_refused (check_records cls arity rs 0) ≡ true = rw q refl in
+        (omega (arith, here, bad-within cls arity rs), rw (here, ← bad-whole cls arity rs) (behind-from cls arity rs 0 b))

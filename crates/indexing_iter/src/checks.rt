@@ -8,7 +8,7 @@ ghost use Rattle.indexing_iter.specs.declared.refusal.Refusal.TheVariants.{NoBod
 ghost use Rattle.indexing_iter.specs.Classes.{class_of};
 ghost use Rattle.indexing_iter.specs.Clauses.{end_of};
 ghost use Rattle.indexing_iter.specs.Readings.{class_by, clauses_by};
-ghost use Rattle.indexing_iter.specs.Checks.{check_arity, check_chosen, check_size, rising_below, check_starts, key_fields_ok, record_bad, register_bad, check_clause, check_clauses, open_somewhere, check_clauses_of, check_code, check_build};
+ghost use Rattle.indexing_iter.specs.Checks.{check_arity, check_chosen, check_size, rising_below, check_starts, has_body, key_fields_ok, record_bad, register_bad, check_clause, check_clauses, open_somewhere, check_clauses_of, check_code, check_build};
 ghost use Rattle.indexing_iter.specs.Faults.{refused_at, open_at};
 ghost use Rattle.indexing_iter.specs.Places.{body_found, passed_through, at_record, open_found, at_clause};
 
@@ -163,7 +163,23 @@ fn no_body(clause: &Reader) -> (Refusal, usize)
     )
 }
 
-// 5 to 7 of a clause, its 5 first, and the record at fault.
+// Whether one of the last n records of a clause is a body record.
+// It takes how many records are left, and is not inlined: LLVM then counts the records of pass_through by that number alone. With the place of the first in
+// its stead, or inlined, the check of accepted code took one or two more instructions a record.
+#[inline(never)]
+fn body_in_last(clause: &Reader, n: usize) -> bool
+    requires { n ≤ length (records_of clause.now.code.now) }
+    ensures { result ≡ has_body (class_by clause.now) (drop (length (records_of clause.now.code.now) - n) (records_of clause.now.code.now)) }
+{
+    let end = records::capacity(clause.code);
+    let rest = Reader {
+        table: clause.table,
+        code: records::part(clause.code, end - n, end),
+    };
+    body_at(&rest).is_some()
+}
+
+// 5 to 7 of a clause, its 5 first, and the record at fault. No record before a 6 or 7 is a body record, so the rest of the clause is searched for one.
 // An Option, here and in first_refused: they tell what is at fault, and the definitions at_record and at_clause are Options.
 fn refused_in(clause: &Reader, arity: u32) -> Option<(Refusal, usize)>
     ensures { result ≡ at_record (class_by clause.now) arity (records_of clause.now.code.now) (check_clause (class_by clause.now) arity (records_of clause.now.code.now)) }
@@ -171,7 +187,9 @@ fn refused_in(clause: &Reader, arity: u32) -> Option<(Refusal, usize)>
     match pass_through(clause, arity) {
         Ok(Some(_)) => None,
         Ok(None) => Some(no_body(clause)),
-        Err(refused) if body_at(clause).is_some() => Some(refused),
+        Err((refusal, at)) if body_in_last(clause, records::capacity(clause.code) - at) => {
+            Some((refusal, at))
+        }
         Err(_) => Some(no_body(clause)),
     }
 }
