@@ -1,23 +1,29 @@
 -- Computed examples of the walk's call and of the witness, bytes in and bytes out, after document 01's section 5 and its table of refusals.
 -- They pin the definitions: an edit of Calls or Agree that changes a field, a refusal, a byte that is left or an agreement makes `called` false.
+-- What the witness promises of its answer is IsWitness: `promised` ties it to is_witness, of which `called` speaks, and `answers` computes it.
 -- Assumes nothing.
 use Prim.Native.Nat.{ℕ}
-use mathlib.Core.Bool.{Bool, not, ◌&&◌}
+use native.Mathlib.Nat.{suc-ne-zero}
+use mathlib.Core.Path.{◌≡◌, refl, ap}
+use mathlib.Core.Bool.{Bool, true, not, ◌&&◌}
 use mathlib.Core.List.{List, [], ◌∷◌, ◌++◌}
 use lib.Dec.{T, eqb}
 use lib.ListN.{length, take}
+use Rattle.std.specs.Prelude.{Option, None, Some}
+use Rattle.std.proofs.lemmas.Bool.{false≢true}
 use Rattle.records.specs.declared.Rec.{Rec}
 use Rattle.records.specs.Records.{rec_of, decode, encode_rec, encode, recs, records_of}
 use Rattle.indexing_iter.specs.Classes.{class_of, arg_of_class}
 use Rattle.indexing_iter.specs.Keys.{key_in}
 use Rattle.indexing_iter.specs.Clauses.{clauses_of, clause_at, key_of, known}
-use Rattle.indexing_iter.specs.Refusals.{number_of}
+use Rattle.indexing_iter.specs.Refusals.{passed, number_of}
 use Rattle.indexing_iter.specs.Checks.{rising_below, has_body, record_bad, check_records, check_clause, check_clauses, check_clauses_of, check_code}
 use Rattle.indexing.proofs.Sample.{line, switch, demand, entry, inner, offset, constant, body, plain, alike, all}
 use Rattle.indexing.specs.Expand.{expand_at}
 use Rattle.indexing.specs.Builder.{stored}
 use Rattle.indexing_scan.specs.Walk.{walk_on}
 use Rattle.indexing_scan.specs.Calls.{argument_ok, Walked, call_of, result_of, walk_call, witness_checks, agreeing, is_witness}
+use Rattle.indexing_scan.specs.Witness.{Witnessed, number_in, found_in, offset_in, IsWitness, Witnesses}
 
 -- ---- arguments of a call
 
@@ -144,3 +150,23 @@ checks = checked 2 fine 0 && (checked 33 [] 1 && (checked 1 [] 7 && checked 2 (t
 pub called : T (all argument_ok good && all (λ r. not (argument_ok r)) bad) × (T (all tells calls) × T (agreements && (chosen && checks)))
 unfolding decode encode_rec encode recs records_of class_of arg_of_class key_in clauses_of clause_at key_of known rising_below has_body record_bad check_records check_clause check_clauses check_clauses_of check_code expand_at stored walk_on argument_ok call_of result_of walk_call witness_checks agreeing
 called = (tt, (tt, tt))
+
+-- ---- the witness's answer
+
+-- an answer that is promised, with 0 for none, is a witness as `called` has it
+pub promised : (os : List ℕ) (o : Option ℕ) → IsWitness os o → is_witness os (found_in o) ≡ true
+promised [] None h = refl
+promised (x ∷ os) None h = absurd (suc-ne-zero (length os) (ap length h))
+promised [] (Some o) h = absurd (false≢true h)
+promised (x ∷ os) (Some o) h = h
+
+-- the same of the witness's whole answer, if it is accepted
+pub witnessed : (os : List ℕ) (w : Witnessed) → Witnesses passed os w → (number_in w ≡ 0) × (is_witness os (offset_in w) ≡ true)
+witnessed os w h = rw h.1 (refl, promised os h.0 h.2)
+
+-- none of no clauses alone; else the offset of one of them, and no other number
+pub answers : (IsWitness [] None × IsWitness (1 ∷ 3 ∷ []) (Some 1) × IsWitness (1 ∷ 3 ∷ []) (Some 3))
+    × ((IsWitness (1 ∷ 3 ∷ []) None → ⊥) × (IsWitness (1 ∷ 3 ∷ []) (Some 2) → ⊥) × (IsWitness (1 ∷ 3 ∷ []) (Some 0) → ⊥))
+    × ((IsWitness [] (Some 0) → ⊥) × (IsWitness [] (Some 1) → ⊥))
+answers =
+    ((refl, refl, refl), (λ h. suc-ne-zero 1 (ap length h), false≢true, false≢true), (false≢true, false≢true))
