@@ -49,13 +49,12 @@ ends c k = c.walk_lines-e.ensures.0 _ (starts-comes k c.args.query.now.call.now)
 
 pub slice_bounds-copy_from_slice-end-3 : goal.slice_bounds-copy_from_slice-end-3
 slice_bounds-copy_from_slice-end-3 c =
-    let e = ends (goal.at.slice_bounds-copy_from_slice-end-3 c).After-walk_lines-e (begins (goal.at.slice_bounds-copy_from_slice-end-3 c).After-count_lines-lines) in
-    e.count ∙ ap length (sym e.offsets)
+    sym (length-take-le _ _ (omega (arith, few (goal.at.slice_bounds-copy_from_slice-end-3 c).After-walk_lines-e)))
 
 pub copy_from_slice-requires : goal.copy_from_slice-requires
 copy_from_slice-requires c =
-    let e = ends (goal.at.copy_from_slice-requires c).After-walk_lines-e (begins (goal.at.copy_from_slice-requires c).After-count_lines-lines) in
-    length-take-le _ _ (omega (arith, few (goal.at.copy_from_slice-requires c).After-walk_lines-e, c.requires.starts_in_bounds)) ∙ e.count ∙ ap length (sym e.offsets)
+    let h = few (goal.at.copy_from_slice-requires c).After-walk_lines-e in
+    length-take-le _ _ (omega (arith, h, c.requires.starts_in_bounds)) ∙ sym (length-take-le _ _ (omega (arith, h)))
 
 pub returns : goal.returns
 returns c = let a = c.args in

@@ -13,12 +13,12 @@ use Rattle.indexing_iter.proofs.FaultLaws.{open-known, body-or-end, body-within,
 use Rattle.locate.proofs.first_open.Goals.{In_ok-k, After-unwrap_or-at}
 use Rattle.locate.proofs.first_open.Goals as goal
 
--- there is such a clause
+-- there is such a clause, whatever argument it is open at
 within : (c : In_ok-k) → c.in_ok-k.k < length c.args.c.now.starts.now
 within c =
     let s = c.args.c.now in
     let rs = records_of s.reader.code.now in
-    let here = open-known (class_in s.reader.table.now) c.args.j (clauses_of rs s.starts.now) c.in_ok-k.k c.in_ok-k.ensures in
+    let here = open-known (class_in s.reader.table.now) _ (clauses_of rs s.starts.now) c.in_ok-k.k c.in_ok-k.ensures in
     omega (arith, here.2, length-clauses rs s.starts.now)
 
 pub clause-clause-requires : goal.clause-clause-requires

@@ -15,8 +15,8 @@ pub all-requires-clause-callable : goal.all-requires-clause-callable
 all-requires-clause-callable c =
     let n = call-records c.args.query.now.program.settings.arity c.args.query.now.call.now c.args.query.now.checked in
     let r = c.new.ensures in
-    serves_from_places (one-to c.args.query.now.program.settings.arity r.start r.end r.exhausted) (λ x q r. search (rules, tests))
-    (λ x k h e. let b = in-one-to c.args.query.now.program.settings.arity k x h e in search (rules, n, b))
+    serves_from_places (one-to _ r.start r.end r.exhausted) (λ x q r. search (rules, tests))
+    (λ x k h e. let b = in-one-to _ k x h e in search (rules, n, b))
 
 pub returns : goal.returns
 returns c =
