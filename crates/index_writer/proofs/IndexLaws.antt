@@ -84,7 +84,7 @@ module _ (code starts : List ℕ) (S : Settings) (c : ℕ) where
 
   -- in code that passed the builder's checks
   module _ (accepted : check_build class_of S.arity c code starts ≡ passed) where
-    checked : check_code class_of S.arity code starts ≡ passed
+    pub checked : check_code class_of S.arity code starts ≡ passed
     checked = build-code class_of S.arity code starts c accepted
 
     pub above : 1 ≤ c
@@ -93,7 +93,7 @@ module _ (code starts : List ℕ) (S : Settings) (c : ℕ) where
     pub below : c ≤ S.arity
     below = (build-chosen class_of S.arity code starts c accepted).1
 
-    small : S.arity ≤ 32
+    pub small : S.arity ≤ 32
     small = (code_ok class_of S.arity code starts checked).arity-to
 
     pub few : length starts ≤ 1024

@@ -57,7 +57,7 @@ module _ {t : Rec → Bool} {l : List Rec} {i : ℕ} (s : Seeks t l i) where
   seeks-none h = let e = ap (up_to t) (drop_of_length-le l h) in omega (arith, s.to, s.first, e)
 
   module _ (h : i < length l) (r : Rec) (e : r ≡ get_or l i zero_rec) where
-    upto_turn : (b : Bool) → t r ≡ b → up_to t (drop i l) ≡ cond b 0 (up_to t (drop (i + 1) l) + 1)
+    pub upto_turn : (b : Bool) → t r ≡ b → up_to t (drop i l) ≡ cond b 0 (up_to t (drop (i + 1) l) + 1)
     upto_turn b f = ap (up_to t) (rw (e, add-one i) (drop-cons l i zero_rec h)) ∙ upto-cons t r (drop (i + 1) l) b f
 
     pub seeks-next : t r ≡ false → Seeks t l (i + 1)

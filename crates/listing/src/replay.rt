@@ -19,7 +19,7 @@ fn read_part(part: &mut [u8]) -> bool {
 
 // Reads the next input and prints its number. Answers how many bytes it has, which stand at the front of the buffer; none where no whole input
 // that fits comes next.
-fn next_input(buffer: &mut [u8], number: u64) -> Option<usize>
+pub fn next_input(buffer: &mut [u8], number: u64) -> Option<usize>
     ensures { Within result (length buffer.old) }
 {
     let mut head = [0u8; 16];
