@@ -164,7 +164,7 @@ pub fn head_of(k: OptArgIndexKey) -> u32
     head_by(sort_of(k), arity_of(k))
 }
 
-// Whether two keys, each by its two numbers, are equal. Wherever keys stand as numbers they are compared by this function.
+// Whether two keys, each by its two numbers, are equal. Keys are compared by this function, wherever they stand.
 // Head and bits are no struct: the public functions same_bits and bucket_of take them as two numbers.
 pub fn same_bits(head: u32, bits: u64, head2: u32, bits2: u64) -> bool
     ensures { result ≡ same_bits head bits head2 bits2 }
@@ -172,11 +172,12 @@ pub fn same_bits(head: u32, bits: u64, head2: u32, bits2: u64) -> bool
     head == head2 && bits == bits2
 }
 
-// Whether two keys are equal: sort, arity and bits are. It has a name, beside `==`, since document 01 asks for one comparison of keys.
+// Whether two keys are equal: sort, arity and bits are. The group tells a literal of any sort from the other keys.
+// No derived `==`: document 01 asks for one comparison of key bits, which is that of same_bits.
 pub fn same_key(a: OptArgIndexKey, b: OptArgIndexKey) -> bool
     ensures { result ≡ same a b }
 {
-    a == b
+    group_of(a) == group_of(b) && same_bits(head_of(a), bits_of(a), head_of(b), bits_of(b))
 }
 
 // The key of a keyed record, by its class, a number (see CLASS).
