@@ -208,7 +208,11 @@ struct Fronts<'a> {
 }
 
 impl ColumnArrays {
-    pub fn new() -> Self {
+    // All places are 0.
+    pub fn new() -> Self
+        ensures keys { (result.heads ≡ replicate 1024 0) × (result.bits ≡ replicate 1024 0) × (result.opens ≡ replicate 32768 0) }
+        ensures leaders { (result.leaders ≡ replicate 1024 0) × (result.sizes ≡ replicate 1024 0) × (result.whole ≡ replicate 1024 0) }
+    {
         ColumnArrays {
             leaders: [0; 1024],
             heads: [0; 1024],

@@ -1,5 +1,5 @@
 // The first line of an index, which has all clauses of the code.
-ghost use Rattle.std.specs.Prelude.{length, replicate};
+ghost use Rattle.std.specs.Prelude.{◌≡◌, length, replicate};
 ghost use Rattle.indexing_iter.specs.Clauses.{offsets_of};
 ghost use Rattle.index_writer.specs.Filling.{Filled};
 
@@ -18,7 +18,12 @@ pub struct FirstLine {
 }
 
 impl FirstLine {
-    pub fn new() -> Self {
+    // All places are 0.
+    pub fn new() -> Self
+        ensures choices { (result.offs ≡ replicate 1024 0) × (result.tags ≡ replicate 1024 0) }
+        ensures keys { (result.columns.heads ≡ replicate 1024 0) × (result.columns.bits ≡ replicate 1024 0) × (result.columns.opens ≡ replicate 32768 0) }
+        ensures leaders { (result.columns.leaders ≡ replicate 1024 0) × (result.columns.sizes ≡ replicate 1024 0) × (result.columns.whole ≡ replicate 1024 0) }
+    {
         FirstLine {
             columns: ColumnArrays::new(),
             offs: [0; 1024],
