@@ -13,9 +13,6 @@ use Rattle.std.proofs.Math.Bool.{or-true}
 use lib.Dec.{eqb, ltb}
 use lib.ListN.{length, get_or, take, drop, set, replicate, length-set, length-map, length-replicate, length-append, length-drop, get_or-replicate}
 use lib.Seq.{slice, ext_get_or, get_or-set_same, get_or-set_other, get_or-take, get_or-drop, take_all, take_at, length-take-le, length-slice}
-use Rattle.std.specs.Prelude.{Some}
-use Rattle.std.specs.List.{find, range_with_len}
-use Rattle.std.specs.Option.{unwrap_or}
 use borrow.Rule.Slice.PartMut.{mid_of, post_of, put_mid, same_len_mid}
 use Rattle.records.specs.declared.Rec.{Rec}
 use Rattle.records.specs.Records.{records_of, zero_rec}
@@ -63,20 +60,25 @@ get_or-map-in f (x ∷ l) (suc i) d e h = get_or-map-in f l i d e (le_of_suc-le-
 -- ---- leaders
 
 module _ (heads bits : List ℕ) where
-  -- the first of some numbers whose key is that of clause j
-  pub first-found : (j i k : ℕ) → unwrap_or (find (λ x. same_at heads bits x j) (range_with_len i k)) j ≡ first_same heads bits j i k
-  unfolding first_same
-  first-found j i zero = refl
-  first-found j i (suc k) = go (same_at heads bits i j) (ap (λ (a : ℕ). unwrap_or (find (λ x. same_at heads bits x j) (range_with_len a k)) j) (add-one i) ∙ first-found j (suc i) k)
-    where
-      go : (b : Bool) → unwrap_or (find (λ x. same_at heads bits x j) (range_with_len (i + 1) k)) j ≡ first_same heads bits j (suc i) k
-          → unwrap_or (cond b (Some i) (find (λ x. same_at heads bits x j) (range_with_len (i + 1) k))) j ≡ cond b i (first_same heads bits j (suc i) k)
-      go true e = refl
-      go false e = e
-
-  pub leader-found : (j : ℕ) → unwrap_or (find (λ x. same_at heads bits x j) (range_with_len 0 j)) j ≡ leader_of heads bits j
+  pub leader-start : (j : ℕ) → first_same heads bits j 0 (j - 0) ≡ leader_of heads bits j
   unfolding leader_of
-  leader-found j = first-found j 0 j
+  leader-start j =
+      let e : j - 0 ≡ j = omega arith in
+      rw e refl
+
+  -- one place more: it has the key of clause j, or the first that has it comes later
+  pub leader-step : (j i : ℕ) → i < j
+      → first_same heads bits j i (j - i) ≡ cond (same_at heads bits i j) i (first_same heads bits j (i + 1) (j - (i + 1)))
+  unfolding first_same
+  leader-step j i h =
+      let e : j - i ≡ suc (j - (i + 1)) = omega arith in
+      rw (e, add-one i) refl
+
+  pub leader-none : (j i : ℕ) → j ≤ i → first_same heads bits j i (j - i) ≡ j
+  unfolding first_same
+  leader-none j i h =
+      let e : j - i ≡ 0 = omega arith in
+      rw e refl
 
   pub length-leaders : (n : ℕ) → length (leaders_to heads bits n) ≡ n
   unfolding leaders_to

@@ -22,11 +22,16 @@ impl Keys<'_> {
         indexing_iter::same_bits(self.heads[i], self.bits[i], self.heads[j], self.bits[j])
     }
 
-    // The leader of clause j.
+    // The leader of clause j. A loop: by `find` a build whose keys all fall into one bucket took over a quarter more instructions.
     pub fn leader_of(&self, j: usize) -> u32
         requires { j < length self.now.heads.now }
         ensures { result ≡ leader_of self.now.heads.now self.now.bits.now j }
     {
-        (0..j).find(|i| self.same_at(*i, j)).unwrap_or(j) as u32
+        for i in 0..j {
+            if self.same_at(i, j) {
+                return i as u32;
+            }
+        }
+        j as u32
     }
 }
